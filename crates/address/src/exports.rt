@@ -11,7 +11,8 @@ ghost use lib.Dec.{ltb, eqb};
 ghost use Rattle.address.specs.Page.{down, up};
 ghost use Rattle.address.specs.Answer.{within64, atLeast0, indexAt, replyOf, numberSaid, virtualSaid, physicalSaid};
 
-fn number_reply(n: NumberAnswer) -> Reply
+// An answer as C reads it.
+pub fn number_reply(n: NumberAnswer) -> Reply
     ensures { λ r. ⌜ r ≡ replyOf (numberSaid n) ⌝ }
 {
     match n {

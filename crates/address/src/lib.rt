@@ -3,6 +3,7 @@
 mod exports;
 mod numbers;
 
+pub use exports::number_reply;
 pub use numbers::round_down;
 pub use numbers::round_up;
 ghost use mathlib.Core.Path.{_≡_};

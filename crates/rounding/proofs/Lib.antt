@@ -1,0 +1,2 @@
+-- The laws on the pages of a range.
+pub mod Unique
