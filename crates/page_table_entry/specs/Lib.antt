@@ -1,0 +1,4 @@
+-- What the contracts of `page_table_entry` cite.
+pub mod Layout
+pub mod Change
+pub mod Built
