@@ -1,0 +1,2 @@
+-- The samples, proved.
+pub mod Samples

@@ -1,0 +1,21 @@
+-- The samples hold, by computing. Assumes nothing.
+use mathlib.Core.Path.{refl}
+use Prim.Native.Nat.{ℕ}
+use Rattle.rounding.specs.Range.{Covers}
+use Rattle.page_table_entry.specs.Built.{written}
+use Rattle.samples.specs.Samples.{Samples}
+
+pub samples : Samples
+unfolding written
+samples = (
+  (refl, refl, refl),
+  (refl, refl, refl),
+  refl,
+  refl,
+  refl,
+  refl,
+  record { from = refl; upto = refl },
+  record { from = refl; upto = refl },
+  record { from = refl; upto = refl },
+  (refl, refl),
+)

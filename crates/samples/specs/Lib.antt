@@ -1,0 +1,2 @@
+-- The statement of the samples.
+pub mod Samples
