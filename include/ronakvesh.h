@@ -1,0 +1,120 @@
+/* Ronakvesh: page tables of RISC-V Sv39. The functions are written and proved in Rattle, and are linked from its archives.
+ *
+ * Addresses, entries and permissions are plain 64-bit numbers. A function that can refuse returns a ronakvesh_reply:
+ * look at its number before its value. Every other function answers for each argument. The numbers given here are
+ *   6  a result that leaves 64 bits, or a level above 2
+ *   8  permissions above 1023
+ *   9  a physical address at or above 2^56
+ * Where more than one applies, the smallest is given. */
+#ifndef RONAKVESH_H
+#define RONAKVESH_H
+
+#include <stdbool.h>
+#include <stdint.h>
+
+#ifdef __cplusplus
+extern "C" {
+#endif
+
+/* An answer, with number 0 and its value; or a refusal, with its number and value 0. */
+typedef struct {
+    uint64_t number;
+    uint64_t value;
+} ronakvesh_reply;
+
+/* The pages numbered from first up to, not including, end. */
+typedef struct {
+    uint64_t first;
+    uint64_t end;
+} ronakvesh_pages;
+
+/* ---- libaddress.a: virtual addresses */
+
+/* The virtual address of this number, which is the number itself. */
+uint64_t ronakvesh_virtual_new(uint64_t number);
+/* Is va a multiple of 4096? */
+bool ronakvesh_virtual_is_page_aligned(uint64_t va);
+/* The lowest multiple of 4096 that is not below va; 6 where it is 2^64. */
+ronakvesh_reply ronakvesh_virtual_pg_round_up(uint64_t va);
+/* The highest multiple of 4096 that is not above va. */
+uint64_t ronakvesh_virtual_pg_round_down(uint64_t va);
+/* va + 4096; 6 where the sum is 2^64 or more. */
+ronakvesh_reply ronakvesh_virtual_add_page(uint64_t va);
+/* Is the first address above the second? */
+bool ronakvesh_virtual_compare(uint64_t first, uint64_t second);
+/* Are the two addresses equal? */
+bool ronakvesh_virtual_equal(uint64_t first, uint64_t second);
+/* va + addr, a number of bytes; 6 where the sum is 2^64 or more. */
+ronakvesh_reply ronakvesh_virtual_add_addr(uint64_t va, uint64_t addr);
+/* The index, 0 to 511, that va has in a table of this level, 0 to 2; 6 for a higher level. */
+ronakvesh_reply ronakvesh_virtual_page_num(uint64_t va, uint64_t level);
+/* The sum of two addresses; 6 where it is 2^64 or more. */
+ronakvesh_reply ronakvesh_virtual_add(uint64_t first, uint64_t second);
+/* The first address less the second; 6 where the second is the higher. */
+ronakvesh_reply ronakvesh_virtual_sub(uint64_t first, uint64_t second);
+
+/* ---- libaddress.a: physical addresses */
+
+/* The physical address of this number, which is the number itself. */
+uint64_t ronakvesh_physical_new(uint64_t number);
+/* Is pa a multiple of 4096? */
+bool ronakvesh_physical_is_page_aligned(uint64_t pa);
+/* The lowest multiple of 4096 that is not below pa; 6 where it is 2^64. */
+ronakvesh_reply ronakvesh_physical_pg_round_up(uint64_t pa);
+/* The highest multiple of 4096 that is not above pa. */
+uint64_t ronakvesh_physical_pg_round_down(uint64_t pa);
+/* pa + 4096; 6 where the sum is 2^64 or more. */
+ronakvesh_reply ronakvesh_physical_add_page(uint64_t pa);
+/* pa + addr, a number of bytes; 6 where the sum is 2^64 or more. */
+ronakvesh_reply ronakvesh_physical_add_addr(uint64_t pa, uint64_t addr);
+
+/* ---- librounding.a: numbers of bytes and ranges of pages */
+
+/* The lowest multiple of 4096 that is not below addr; 6 where it is 2^64. */
+ronakvesh_reply ronakvesh_page_round_up(uint64_t addr);
+/* The highest multiple of 4096 that is not above addr. */
+uint64_t ronakvesh_page_round_down(uint64_t addr);
+/* The pages that size bytes from va cover: floor(va/4096) up to, not including, ceil((va+size)/4096), where va+size is
+ * the whole sum, of 65 bits; never refused. */
+ronakvesh_pages ronakvesh_page_range(uint64_t va, uint64_t size);
+
+/* ---- libpage_table_entry.a: entries
+ * Bits 0 to 9 of an entry are its flags: V R W X U G A D and two software bits. Bits 10 to 53 are its frame number. */
+
+/* The entry of this number, which is the number itself. */
+uint64_t ronakvesh_entry_new(uint64_t number);
+/* Has the entry V? */
+bool ronakvesh_entry_is_valid(uint64_t entry);
+/* Has the entry U? */
+bool ronakvesh_entry_is_user(uint64_t entry);
+/* Has the entry R? */
+bool ronakvesh_entry_is_read(uint64_t entry);
+/* Has the entry W? */
+bool ronakvesh_entry_is_write(uint64_t entry);
+/* Has the entry X? */
+bool ronakvesh_entry_is_execute(uint64_t entry);
+/* Has the entry one of R, W and X at least? */
+bool ronakvesh_entry_is_leaf(uint64_t entry);
+/* The entry with V set. */
+uint64_t ronakvesh_entry_add_valid_bit(uint64_t entry);
+/* The entry with U set. */
+uint64_t ronakvesh_entry_add_user_bit(uint64_t entry);
+/* The entry with U clear. */
+uint64_t ronakvesh_entry_rm_user_bit(uint64_t entry);
+/* The physical address of the frame that the entry names; bits 54 to 63 of the entry are no part of it. */
+uint64_t ronakvesh_entry_as_pagetable(uint64_t entry);
+/* The entry that names the frame of pa and has no flag; 9 for pa at or above 2^56. */
+ronakvesh_reply ronakvesh_entry_as_pte(uint64_t pa);
+/* The flags of the entry, its low ten bits. */
+uint64_t ronakvesh_entry_as_flags(uint64_t entry);
+/* The empty entry, 0. */
+uint64_t ronakvesh_entry_write_zero(void);
+/* The entry of the frame of pa: its number shifted left by 10, or-ed with perm and V. 8 for perm above 1023, 9 for pa at
+ * or above 2^56, 8 where both hold. */
+ronakvesh_reply ronakvesh_entry_write_perm(uint64_t pa, uint64_t perm);
+
+#ifdef __cplusplus
+}
+#endif
+
+#endif
