@@ -1,0 +1,8 @@
+-- What the contracts of `store` and of the crates above it cite.
+pub mod Says
+pub mod Store
+pub mod Level
+pub mod Count
+pub mod WellFormed
+pub mod Outcome
+pub mod SetUp
