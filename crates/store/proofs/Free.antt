@@ -7,7 +7,8 @@ use native.Mathlib.Numerals.{add-one}
 use native.Mathlib.Omega.{arith}
 use lib.ListN.{length, drop, getD}
 use lib.Seq.{drop-cons}
-use Rattle.store.specs.Count.{lowest, isZero, zeros}
+use Rattle.store.specs.Store.{mark}
+use Rattle.store.specs.Count.{lowest, isZero, zeros, free}
 
 pub isZero-pos : (n : ℕ) → (n ≡ 0 → ⊥) → isZero n ≡ 0
 isZero-pos zero h = absurd (h refl)
@@ -39,3 +40,17 @@ zeros-next g (suc n) c =
 -- a mark more, which is free or is not
 pub zeros-more : (g : ℕ → ℕ) (n i m : ℕ) → n ≡ zeros g i 0 → m ≡ isZero (g i) → n + m ≡ zeros g (i + 1) 0
 zeros-more g n i m e f = rw add-one (omega (arith, zeros-next g i 0, ap (λ (x : ℕ). isZero (g x)) (zero-add i)))
+
+zeros-le : (g : ℕ → ℕ) (n c : ℕ) → zeros g n c ≤ n
+unfolding zeros
+zeros-le g zero c = omega arith
+zeros-le g (suc n) c = omega (arith, zeros-le g n (suc c), isZero-le (g c))
+  where
+    isZero-le : (m : ℕ) → isZero m ≤ 1
+    isZero-le zero = omega arith
+    isZero-le (suc m) = omega arith
+
+-- no more are free than there are
+pub free-le : (ms : List ℕ) → free ms ≤ length ms
+unfolding free
+free-le ms = zeros-le (mark ms) (length ms) 0

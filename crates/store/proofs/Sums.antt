@@ -1,21 +1,11 @@
 -- Finite sums, and counting the same things twice. Assumes nothing.
 use mathlib.Core.Path.{_≡_, refl, sym, ap, _∙_}
-use mathlib.Core.Bool.{cond}
 use Prim.Native.Nat.{ℕ, zero, suc, _+_, _-_, _*_, _≤_, _<_}
 use native.Mathlib.Omega.{arith}
 use native.Mathlib.Nat.{add-zero, add-suc, mul-zero, zero-mul, suc-mul, mul-add}
 use native.Mathlib.Decide.{ℕ-discrete, decLt}
-use lib.Dec.{eqb}
 use borrow.Author.Tests.{eq-eqb, ne-eqb}
-
--- g 0 + .. + g (n - 1)
-unfoldable pub sum : (ℕ → ℕ) → ℕ → ℕ
-sum g zero = 0
-sum g (suc n) = sum g n + g n
-
--- 1 where a and b are equal, else 0
-unfoldable pub same : ℕ → ℕ → ℕ
-same a b = cond (eqb a b) 1 0
+use Rattle.store.specs.Sum.{sum, same}
 
 -- ---- same
 

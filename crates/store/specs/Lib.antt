@@ -1,5 +1,6 @@
 -- What the contracts of `store` and of the crates above it cite.
 pub mod Says
+pub mod Sum
 pub mod Store
 pub mod Level
 pub mod Count

@@ -4,6 +4,7 @@ mod exports;
 mod fill;
 mod marks;
 
+pub use exports::answer_reply;
 pub use marks::count_free;
 pub use marks::level_of;
 pub use marks::lowest_free;

@@ -1,0 +1,72 @@
+-- `well_formed::formed` meets its contract: the scans and the two counts are W1 to W5. Assumes nothing.
+use mathlib.Core.Path.{sym, ap, _∙_}
+use Prim.Native.Nat.{ℕ, _-_}
+use native.Mathlib.Omega.{arith}
+use borrow.Author.Tests.{not-false}
+use lib.ListN.{length}
+use borrow.Author.Needs.{needs}
+use Rattle.store.proofs.Free.{free-le}
+use Rattle.store.proofs.Tests.{not-left, not-taken}
+use Rattle.well_formed.proofs.Verdict.{formed, words-of, count-of, counted}
+use Rattle.well_formed.proofs.formed.Statement.{statement}
+use Rattle.well_formed.proofs.formed.Tie as tie
+
+tables-ok-requires : tie.Need-tables-ok-requires
+tables-ok-requires c κs = search needs
+
+returns : tie.Need-returns
+returns c = λ wf. not-taken (c .before .tables-ok .result) (c .if1 .taken) (c .before .tables-ok .ensures) (wf .w2)
+
+words-ok-requires : tie.Need-words-ok-requires
+words-ok-requires c κs = search needs
+
+returns-2 : tie.Need-returns-2
+returns-2 c = λ wf. not-taken (c .before .before .words-ok .result .ok) (c .if2 .taken) (c .before .before .words-ok .ensures .says) (words-of _ (c .before .before .before .before .before .before .before .before .before .pre) wf)
+
+count-free-requires : tie.Need-count-free-requires
+count-free-requires c κs = search needs
+
+sub-used : tie.Need-sub-used
+sub-used c = omega (arith, c .count-free .ensures, free-le (c .before .before .before .before .before .before .before .before .before .before .args .fmarks .now))
+
+returns-3 : tie.Need-returns-3
+returns-3 c =
+    let p = c .before .before .before .before .before .words-ok in
+    let f = c .before .before .before .before .before .before .before .before .before .before .before .before .args .fmarks .now in
+    λ wf.
+    c .if3 .taken
+    (sym (counted _ (c .before .before .before .before .before .before .before .before .before .before .before .before .pre) (p .result .held) (p .ensures .counts (not-false (p .result .ok) (c .before .before .before .if2 .left))))
+    ∙ count-of _ (c .before .before .before .before .before .before .before .before .before .before .before .before .pre) wf _ (ap (λ (n : ℕ). length f - n) (c .before .before .count-free .ensures)))
+
+frames-ok-requires : tie.Need-frames-ok-requires
+frames-ok-requires c κs = search needs
+
+returns-4 : tie.Need-returns-4
+returns-4 c = λ wf. not-taken (c .before .frames-ok .result) (c .if4 .taken) (c .before .frames-ok .ensures) (wf .w5)
+
+returns-5 : tie.Need-returns-5
+returns-5 c =
+    let p = c .before .before .before .before .before .before .before .words-ok in
+    let f = c .before .before .before .before .before .before .before .before .before .before .before .before .before .before .args .fmarks .now in
+    formed _ (c .before .before .before .before .before .before .before .before .before .before .before .before .before .before .pre)
+    (not-left (c .before .before .before .before .before .before .before .before .before .tables-ok .result) (c .before .before .before .before .before .before .before .before .if1 .left) (c .before .before .before .before .before .before .before .before .before .tables-ok .ensures))
+    (not-left (p .result .ok) (c .before .before .before .before .before .if2 .left) (p .ensures .says))
+    (not-left (c .before .frames-ok .result) (c .if4 .left) (c .before .frames-ok .ensures))
+    (p .result .held)
+    (c .before .before .if3 .left ∙ ap (λ (n : ℕ). length f - n) (c .before .before .before .before .count-free .ensures))
+    (counted _ (c .before .before .before .before .before .before .before .before .before .before .before .before .before .before .pre) (p .result .held) (p .ensures .counts (not-false (p .result .ok) (c .before .before .before .before .before .if2 .left))))
+
+pub formed-spec : {M : Type 1} → statement M
+formed-spec =
+    tie.close
+    (tie.spec
+    tables-ok-requires
+    returns
+    words-ok-requires
+    returns-2
+    count-free-requires
+    sub-used
+    returns-3
+    frames-ok-requires
+    returns-4
+    returns-5)

@@ -1,0 +1,3 @@
+-- What the contracts of `well_formed` cite.
+pub mod Check
+pub mod Scan
