@@ -4,5 +4,11 @@ pub mod Scans
 pub mod Sums
 pub mod Levels
 pub mod Free
+pub mod Taken
+pub mod Tally
+pub mod Reached
+pub mod Tree
+pub mod Walk
+pub mod Owners
 pub mod Outcomes
 pub mod SetUp

@@ -5,5 +5,8 @@ pub mod Store
 pub mod Level
 pub mod Count
 pub mod WellFormed
+pub mod Walk
+pub mod Owners
+pub mod Reached
 pub mod Outcome
 pub mod SetUp

@@ -4,46 +4,22 @@ use mathlib.Core.Path.{_≡_, refl, sym, ap, _∙_}
 use mathlib.Core.Logic.{_⊎_, inl, inr, ⊎-elim}
 use mathlib.Core.List.{List}
 use Prim.Native.Nat.{ℕ, zero, suc, _+_, _-_, _*_, _/_, _%_, _^_, _≤_, _<_}
-use native.Mathlib.Nat.{zero-add}
 use native.Mathlib.Decide.{ℕ-discrete, decLt}
 use native.Mathlib.Omega.{arith}
 use lib.ListN.{length}
 use Rattle.store.specs.Sum.{sum, same}
-use Rattle.store.specs.Count.{isZero, zeros, free}
 use Rattle.store.specs.Store.{word, mark, frameNo, poolNo}
 use Rattle.store.specs.Level.{home, level}
 use Rattle.store.specs.WellFormed.{Outside, Held, Leaf, Named}
 use Rattle.store.proofs.Sums.{same-yes, same-no, same-le, same-one, same-times, same-none, sum-cong, sum-le, sum-pinch, at-most, sum-some, sum-only, marks-swap}
 use Rattle.store.proofs.Scans.{in-range}
-use Rattle.store.proofs.Free.{isZero-pos, zeros-next}
+use Rattle.store.proofs.Taken.{taken, taken-some, taken-pos}
 use Rattle.well_formed.specs.Scan.{Shape, FrameOk, inWindow, leafWindowed}
-
--- 1 where a mark is in use
-abbrev used : ℕ → ℕ
-used m = 1 - isZero m
-
-used-some : (m : ℕ) → (m ≡ 0 → ⊥) → used m ≡ 1
-used-some zero n = absurd (n refl)
-used-some (suc m) n = refl
-
-used-pos : (m : ℕ) → 0 < used m → m ≡ 0 → ⊥
-used-pos zero h e = omega arith
-used-pos (suc m) h e = omega arith
-
--- those in use and the free ones are all
-pub all-marks : (g : ℕ → ℕ) (n : ℕ) → sum (λ i. used (g i)) n + zeros g n 0 ≡ n
-unfolding sum zeros
-all-marks g zero = refl
-all-marks g (suc n) = omega (arith, all-marks g n, zeros-next g n 0, either (g n), ap (λ (k : ℕ). isZero (g k)) (zero-add n))
-  where
-    either : (m : ℕ) → used m + isZero m ≡ 1
-    either zero = refl
-    either (suc m) = refl
 
 module _ (ws ms fs : List ℕ) (w5 : (f : ℕ) → f < length fs → FrameOk ws ms fs f) (few : length fs ≤ 4096) where
   -- how many frames have the mark that names word w
   owned : ℕ → ℕ
-  owned w = sum (λ f. same (mark fs f) (w + 2) * used (mark fs f)) (length fs)
+  owned w = sum (λ f. same (mark fs f) (w + 2) * taken (mark fs f)) (length fs)
 
   named : (f : ℕ) → f < length fs → (mark fs f ≡ 0 → ⊥) → Named ws ms fs f
   named f l n = ⊎-elim (λ z. absurd (n z)) (λ q. q) (w5 f l)
@@ -55,9 +31,9 @@ module _ (ws ms fs : List ℕ) (w5 : (f : ℕ) → f < length fs → FrameOk ws 
       let i : mark fs f - 2 < length ws = in-range ws (mark fs f - 2) (λ z. omega (arith, q .names)) in
       (q .from-two, omega (arith, q .from-two))
 
-  all-owned : sum owned (length ws) ≡ sum (λ f. used (mark fs f)) (length fs)
+  all-owned : sum owned (length ws) ≡ sum (λ f. taken (mark fs f)) (length fs)
   unfolding owned
-  all-owned = marks-swap (mark fs) (λ f. used (mark fs f)) (length fs) (length ws) (λ f l p. there f l (used-pos (mark fs f) p))
+  all-owned = marks-swap (mark fs) (λ f. taken (mark fs f)) (length fs) (length ws) (λ f l p. there f l (taken-pos (mark fs f) p))
 
   -- the word w of a mark: at level 0, with that frame, in the held window
   at-word : (f w : ℕ) → f < length fs → mark fs f ≡ w + 2 → (level ms (w / 512) ≡ 0) × (frameNo (word ws w) ≡ poolNo f)
@@ -75,20 +51,20 @@ module _ (ws ms fs : List ℕ) (w5 : (f : ℕ) → f < length fs → FrameOk ws 
   only : (f w : ℕ) → f < length fs → mark fs f ≡ w + 2 → owned w ≡ 1
   unfolding owned
   only f w l e =
-      sum-only (λ g. same (mark fs g) (w + 2) * used (mark fs g)) (length fs) f l
-      (λ g lg n. same-none (mark fs g) (w + 2) (used (mark fs g)) (λ eg. n (omega (arith, at-word f w l e, at-word g w lg eg))))
-      ∙ same-times (mark fs f) (w + 2) (used (mark fs f)) e ∙ used-some (mark fs f) (λ z. omega arith)
+      sum-only (λ g. same (mark fs g) (w + 2) * taken (mark fs g)) (length fs) f l
+      (λ g lg n. same-none (mark fs g) (w + 2) (taken (mark fs g)) (λ eg. n (omega (arith, at-word f w l e, at-word g w lg eg))))
+      ∙ same-times (mark fs f) (w + 2) (taken (mark fs f)) e ∙ taken-some (mark fs f) (λ z. omega arith)
 
   -- where a word is owned at all, a frame has its mark
   owner : (w : ℕ) → 0 < owned w → (f : ℕ) × (f < length fs) × (mark fs f ≡ w + 2)
   unfolding owned
   owner w h =
-      let s = sum-some (λ f. same (mark fs f) (w + 2) * used (mark fs f)) (length fs) h in
+      let s = sum-some (λ f. same (mark fs f) (w + 2) * taken (mark fs f)) (length fs) h in
       (s .0, s .1, go (s .0) (s .2) (ℕ-discrete (mark fs (s .0)) (w + 2)))
     where
-      go : (f : ℕ) → 0 < same (mark fs f) (w + 2) * used (mark fs f) → Dec (mark fs f ≡ w + 2) → mark fs f ≡ w + 2
+      go : (f : ℕ) → 0 < same (mark fs f) (w + 2) * taken (mark fs f) → Dec (mark fs f ≡ w + 2) → mark fs f ≡ w + 2
       go f p (yes e) = e
-      go f p (no n) = absurd (omega (arith, same-none (mark fs f) (w + 2) (used (mark fs f)) n))
+      go f p (no n) = absurd (omega (arith, same-none (mark fs f) (w + 2) (taken (mark fs f)) n))
 
   -- so a word is counted at least as often as it is owned
   below : (w : ℕ) → owned w ≤ leafWindowed ws ms w
@@ -99,7 +75,7 @@ module _ (ws ms fs : List ℕ) (w5 : (f : ℕ) → f < length fs → FrameOk ws 
       go (yes h) = let o = owner w h in omega (arith, only (o .0) w (o .1) (o .2), counted (o .0) w (o .1) (o .2))
 
   -- equal counts: each level-0 word of the held window is that of a pool frame
-  pub all-held : sum (leafWindowed ws ms) (length ws) ≡ sum (λ f. used (mark fs f)) (length fs)
+  pub all-held : sum (leafWindowed ws ms) (length ws) ≡ sum (λ f. taken (mark fs f)) (length fs)
       → (w : ℕ) → w < length ws → level ms (w / 512) ≡ 0 → inWindow (word ws w) ≡ 1 → Held fs (frameNo (word ws w)) w
   all-held e w l z i =
       let same-count : owned w ≡ leafWindowed ws ms w = sum-pinch owned (leafWindowed ws ms) (length ws) (λ k _. below k) (all-owned ∙ sym e) w l in
@@ -109,7 +85,7 @@ module _ (ws ms fs : List ℕ) (w5 : (f : ℕ) → f < length fs → FrameOk ws 
 
   -- and where each is, the counts are equal
   pub counts-equal : ((w : ℕ) → w < length ws → level ms (w / 512) ≡ 0 → inWindow (word ws w) ≡ 1 → Held fs (frameNo (word ws w)) w)
-      → sum (leafWindowed ws ms) (length ws) ≡ sum (λ f. used (mark fs f)) (length fs)
+      → sum (leafWindowed ws ms) (length ws) ≡ sum (λ f. taken (mark fs f)) (length fs)
   counts-equal h = sum-cong (leafWindowed ws ms) owned (length ws) equal ∙ all-owned
     where
       equal : (w : ℕ) → w < length ws → leafWindowed ws ms w ≡ owned w

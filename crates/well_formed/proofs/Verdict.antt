@@ -8,17 +8,18 @@ use native.Mathlib.Decide.{ℕ-discrete, decLt}
 use native.Mathlib.Omega.{arith}
 use lib.ListN.{length}
 use Rattle.store.specs.Sum.{sum, same}
-use Rattle.store.specs.Count.{isZero, free}
+use Rattle.store.specs.Count.{free}
 use Rattle.store.specs.Store.{Store, Sized, word, mark, frameNo}
 use Rattle.store.specs.Level.{level}
 use Rattle.store.specs.WellFormed.{Outside, Held, Leaf, WellFormed}
 use Rattle.store.specs.Outcome.{Smallest, NoReason}
 use Rattle.store.specs.declared.Answer.{Answer}
 use Rattle.store.proofs.Sums.{same-yes, same-one}
+use Rattle.store.proofs.Taken.{taken, free-taken}
 use Rattle.store.proofs.Outcomes.{one-outcome}
 use Rattle.well_formed.specs.Check.{CheckReason, sizes, YesNo, CheckDone, Check}
 use Rattle.well_formed.specs.Scan.{Shape, Over, inWindow, leafWindowed, WordOk, WordsOk, TableOk, FrameOk}
-use Rattle.well_formed.proofs.Pool.{all-marks, all-held, counts-equal}
+use Rattle.well_formed.proofs.Pool.{all-held, counts-equal}
 
 -- a frame number in the held window is that of a word whose bits 27 and up are 8
 outside : (x : ℕ) → (x / 2 ^ 27 ≡ 8 → ⊥) → Outside (x / 1024)
@@ -48,9 +49,8 @@ module _ (s : Store) (z : Sized s) where
   counted n x = sym (x .adds) ∙ zero-add n
 
   -- the count of frames in use is F less the free ones
-  used-count : (n : ℕ) → n ≡ length fs - free fs → sum (λ f. 1 - isZero (mark fs f)) (length fs) ≡ n
-  unfolding free
-  used-count n e = omega (arith, all-marks (mark fs) (length fs))
+  used-count : (n : ℕ) → n ≡ length fs - free fs → sum (λ f. taken (mark fs f)) (length fs) ≡ n
+  used-count n e = omega (arith, free-taken fs)
 
   module _ (tables : (t : ℕ) → t < length ms → TableOk ws ms t) (words : WordsOk ws ms 0 (length ws)) (frames : (f : ℕ) → f < length fs → FrameOk ws ms fs f)
       (n : ℕ) (en : n ≡ length fs - free fs) (eq : sum (leafWindowed ws ms) (length ws) ≡ n) where
