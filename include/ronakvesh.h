@@ -2,6 +2,7 @@
  *
  * Addresses, entries and permissions are plain 64-bit numbers. A function that can refuse returns a ronakvesh_reply:
  * look at its number before its value. Every other function answers for each argument. The numbers given here are
+ *   1  a store of the wrong sizes
  *   6  a result that leaves 64 bits, or a level above 2
  *   8  permissions above 1023
  *   9  a physical address at or above 2^56
@@ -10,6 +11,7 @@
 #define RONAKVESH_H
 
 #include <stdbool.h>
+#include <stddef.h>
 #include <stdint.h>
 
 #ifdef __cplusplus
@@ -112,6 +114,19 @@ uint64_t ronakvesh_entry_write_zero(void);
 /* The entry of the frame of pa: its number shifted left by 10, or-ed with perm and V. 8 for perm above 1023, 9 for pa at
  * or above 2^56, 8 where both hold. */
 ronakvesh_reply ronakvesh_entry_write_perm(uint64_t pa, uint64_t perm);
+
+/* ---- the store
+ * Four slices that the caller lends: table words (512 a table), table marks, frame bytes (4096 a frame), frame marks. A slice is a
+ * pointer that is aligned and not null, and the number of its elements; the four do not overlap. Their sizes are right where
+ * there are 1 to 512 table marks and 1 to 4096 frame marks, and exactly as many words and bytes as these ask for. */
+
+/* libstore.a: writes zeros to all four slices; 1 where the sizes are wrong, and then nothing is written. */
+ronakvesh_reply ronakvesh_set_up(uint64_t *words, size_t word_count, uint32_t *table_marks, size_t tables,
+                                 uint8_t *bytes, size_t byte_count, uint32_t *frame_marks, size_t frames);
+
+/* libwell_formed.a: the value is 1 where the store is well formed and 0 where it is not; 1 where the sizes are wrong. */
+ronakvesh_reply ronakvesh_check(const uint64_t *words, size_t word_count, const uint32_t *table_marks, size_t tables,
+                                const uint8_t *bytes, size_t byte_count, const uint32_t *frame_marks, size_t frames);
 
 #ifdef __cplusplus
 }

@@ -10,5 +10,6 @@ pub mod Reached
 pub mod Tree
 pub mod Walk
 pub mod Owners
+pub mod Entries
 pub mod Outcomes
 pub mod SetUp
