@@ -6,6 +6,7 @@ use mathlib.Core.Bool.{Bool, true, false}
 use Prim.Native.Nat.{ℕ, _+_, _*_, _/_, _%_, _^_, _≤_, _<_}
 use native.Mathlib.Decide.{decLt}
 use native.Mathlib.Omega.{arith}
+use Rattle.address.specs.Field.{bit}
 use Rattle.store.specs.Says.{Says}
 use Rattle.store.specs.Sum.{same}
 use Rattle.store.specs.Store.{word, mark}
@@ -58,8 +59,9 @@ module _ (ws : List ℕ) (a e : ℕ) (l : a ≤ e) (x : ℕ) (o : OrOf ws a e x)
     pub leaves-count : x < 2 ^ 54 → y % 2 ≡ 0 → (n : ℕ) → Over (windowed ws) a e n → Finds (Shapes ws a e) (windowed ws) a e (record { ok = true; held = n })
     leaves-count s v n = finds-yes _ _ a e n (λ k p q. record { valid = f .odd v k p q; clear = omega (arith, o .above k p q) })
 
-    pub leaves-out : x < 2 ^ 54 → y % 2 ≡ 0 → y < 2 ^ 63 → Finds (Shapes ws a e) (windowed ws) a e (record { ok = true; held = 0 })
-    leaves-out s v t = leaves-count s v 0 (over-zero (windowed ws) a e l (f .out t))
+    -- a word of the held window has bit 30
+    pub leaves-out : x < 2 ^ 54 → y % 2 ≡ 0 → bit 30 x ≡ 0 → Finds (Shapes ws a e) (windowed ws) a e (record { ok = true; held = 0 })
+    leaves-out s v z = leaves-count s v 0 (over-zero (windowed ws) a e l (λ k p q. same-no (word ws k / 2 ^ 27) 8 (λ h. omega (arith, o .bits 30 z k p q))))
 
 module _ (ws ms : List ℕ) (w : ℕ) where
   word-zero : word ws w ≡ 0 → WordOk ws ms w

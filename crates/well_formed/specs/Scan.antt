@@ -5,6 +5,7 @@ use mathlib.Core.Bool.{true}
 use mathlib.Core.List.{List}
 use Prim.Native.Nat.{ℕ, _+_, _-_, _*_, _/_, _%_, _^_, _≤_, _<_}
 use lib.ListN.{length}
+use Rattle.address.specs.Field.{bit}
 use Rattle.store.specs.Says.{Says}
 use Rattle.store.specs.Sum.{sum, same}
 use Rattle.store.specs.Store.{word, mark}
@@ -27,9 +28,10 @@ pub record Root (ws ms : List ℕ) (a : ℕ) : Type 0 where
   pub low : Pointers ws ms a (a + 256)
   pub high : Zeros ws (a + 256) (a + 512)
 
--- r is above each word, and has no bit above those of the words
+-- r is above each word, has each of their bits, and has no bit above theirs
 pub record OrOf (ws : List ℕ) (a e r : ℕ) : Type 0 where
   pub above : Each (λ (k : ℕ). word ws k ≤ r) a e
+  pub bits : (j : ℕ) → bit j r ≡ 0 → Each (λ (k : ℕ). bit j (word ws k) ≡ 0) a e
   pub within : (j : ℕ) → Each (λ (k : ℕ). word ws k < 2 ^ j) a e → r < 2 ^ j
 
 abbrev pub OddOrZero : ℕ → Type 0
@@ -47,17 +49,15 @@ Shapes ws a e = Each (λ (k : ℕ). Shape (word ws k)) a e
 abbrev pub inWindow : ℕ → ℕ
 inWindow x = same (x / 2 ^ 27) 8
 
--- bit 0 of r is clear exactly where x is odd or 0, and bit 63 only where x names no frame of the held window
+-- r is even exactly where x is odd or 0
 pub record FlagOf (x r : ℕ) : Type 0 where
   pub odd : r % 2 ≡ 0 → OddOrZero x
   pub even : OddOrZero x → r % 2 ≡ 0
-  pub out : r < 2 ^ 63 → inWindow x ≡ 0
 
--- the same of each word
+-- r is even exactly where each word is odd or 0
 pub record FlagsOf (ws : List ℕ) (a e r : ℕ) : Type 0 where
   pub odd : r % 2 ≡ 0 → Each (λ (k : ℕ). OddOrZero (word ws k)) a e
   pub even : Each (λ (k : ℕ). OddOrZero (word ws k)) a e → r % 2 ≡ 0
-  pub out : r < 2 ^ 63 → Each (λ (k : ℕ). inWindow (word ws k) ≡ 0) a e
 
 -- g a + .. + g (e - 1) is n, said by the sums up to both ends
 pub record Over (g : ℕ → ℕ) (a e n : ℕ) : Type 0 where

@@ -6,7 +6,7 @@ ghost use mathlib.Core.Path.{_≡_};
 ghost use lib.ListN.{length};
 ghost use Rattle.well_formed.specs.Scan.{Shapes, Finds, windowed};
 
-// Zero words are the common case, and words of the held window are looked for only where a flag says that there is one.
+// Zero words are the common case, and words of the held window, which have bit 30, are counted only where one has that bit.
 fn leaves_few(words: &[u64], a: usize, e: usize) -> Part
     requires { ⌜ (a ≤ e) × (e ≤ length (now words)) ⌝ }
     ensures { λ r. ⌜ Finds (Shapes (now (words .entry)) a e) (windowed (now (words .entry))) a e r ⌝ }
@@ -22,7 +22,7 @@ fn leaves_few(words: &[u64], a: usize, e: usize) -> Part
     if y % 2 != 0 {
         return Part { ok: false, held: 0 };
     }
-    if y < 0x8000_0000_0000_0000 {
+    if x / 0x4000_0000 % 2 == 0 {
         return Part { ok: true, held: 0 };
     }
     let n = scan::count_held(words, a, e);

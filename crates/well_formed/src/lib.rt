@@ -29,11 +29,11 @@ fn formed(words: &[u64], tmarks: &[u32], bytes: &[u8], fmarks: &[u32]) -> bool
     requires { ⌜ Sized (storeOf (now words) (now tmarks) (now bytes) (now fmarks)) ⌝ }
     ensures { λ r. ⌜ Says r (WellFormed (storeOf (now (words .entry)) (now (tmarks .entry)) (now (bytes .entry)) (now (fmarks .entry)))) ⌝ }
 {
-    if !tables::tables_ok(words, tmarks) {
-        return false;
-    }
     let p = words::words_ok(words, tmarks);
     if !p.ok {
+        return false;
+    }
+    if !tables::tables_ok(words, tmarks) {
         return false;
     }
     let used = fmarks.len() - store::count_free(fmarks);

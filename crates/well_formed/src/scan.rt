@@ -30,15 +30,12 @@ pub fn zeros(words: &[u64], a: usize, e: usize) -> bool
     true
 }
 
-// Bit 0 is set where x is even and not 0, bit 63 where its frame lies in the held window.
+// Odd where x is even and not 0, and even for every other x: x and, where it is not 0, one more.
 fn flag(x: u64) -> u64
     requires { ⌜ x < 2 ^ 54 ⌝ }
     ensures { λ r. ⌜ FlagOf x r ⌝ }
 {
-    if x == 0 {
-        return 0;
-    }
-    0x8000_0000_07FF_FFFF - (x ^ 0x4000_0000)
+    (x + 0x3F_FFFF_FFFF_FFFF) / 0x40_0000_0000_0000 + x
 }
 
 // The or of the flags of the words.

@@ -1,5 +1,5 @@
 -- `well_formed::formed` meets its contract: the scans and the two counts are W1 to W5. Assumes nothing.
-use mathlib.Core.Path.{sym, ap, _∙_}
+use mathlib.Core.Path.{_≡_, sym, ap, _∙_}
 use Prim.Native.Nat.{ℕ, _-_}
 use native.Mathlib.Omega.{arith}
 use borrow.Author.Tests.{not-false}
@@ -11,17 +11,17 @@ use Rattle.well_formed.proofs.Verdict.{formed, words-of, count-of, coun
 use Rattle.well_formed.proofs.formed.Statement.{statement}
 use Rattle.well_formed.proofs.formed.Tie as tie
 
-tables-ok-requires : tie.Need-tables-ok-requires
-tables-ok-requires c κs = search needs
-
-returns : tie.Need-returns
-returns c = λ wf. not-taken (c .before .tables-ok .result) (c .if1 .taken) (c .before .tables-ok .ensures) (wf .w2)
-
 words-ok-requires : tie.Need-words-ok-requires
 words-ok-requires c κs = search needs
 
+returns : tie.Need-returns
+returns c = λ wf. not-taken (c .before .before .words-ok .result .ok) (c .if1 .taken) (c .before .before .words-ok .ensures .says) (words-of _ (c .before .before .before .before .before .before .before .pre) wf)
+
+tables-ok-requires : tie.Need-tables-ok-requires
+tables-ok-requires c κs = search needs
+
 returns-2 : tie.Need-returns-2
-returns-2 c = λ wf. not-taken (c .before .before .words-ok .result .ok) (c .if2 .taken) (c .before .before .words-ok .ensures .says) (words-of _ (c .before .before .before .before .before .before .before .before .before .pre) wf)
+returns-2 c = λ wf. not-taken (c .before .tables-ok .result) (c .if2 .taken) (c .before .tables-ok .ensures) (wf .w2)
 
 count-free-requires : tie.Need-count-free-requires
 count-free-requires c κs = search needs
@@ -31,12 +31,13 @@ sub-used c = omega (arith, c .count-free .ensures, free-le (c .before .before .b
 
 returns-3 : tie.Need-returns-3
 returns-3 c =
-    let p = c .before .before .before .before .before .words-ok in
+    let p = c .before .before .before .before .before .before .before .words-ok in
     let f = c .before .before .before .before .before .before .before .before .before .before .before .before .args .fmarks .now in
     λ wf.
-    c .if3 .taken
-    (sym (counted _ (c .before .before .before .before .before .before .before .before .before .before .before .before .pre) (p .result .held) (p .ensures .counts (not-false (p .result .ok) (c .before .before .before .if2 .left))))
-    ∙ count-of _ (c .before .before .before .before .before .before .before .before .before .before .before .before .pre) wf _ (ap (λ (n : ℕ). length f - n) (c .before .before .count-free .ensures)))
+    let e : p .result .held ≡ length f - c .before .before .count-free .result =
+    sym (counted _ (c .before .before .before .before .before .before .before .before .before .before .before .before .pre) (p .result .held) (p .ensures .counts (not-false (p .result .ok) (c .before .before .before .before .before .if1 .left))))
+    ∙ count-of _ (c .before .before .before .before .before .before .before .before .before .before .before .before .pre) wf _ (ap (λ (n : ℕ). length f - n) (c .before .before .count-free .ensures)) in
+    omega (arith, c .if3 .taken)
 
 frames-ok-requires : tie.Need-frames-ok-requires
 frames-ok-requires c κs = search needs
@@ -46,23 +47,24 @@ returns-4 c = λ wf. not-taken (c .before .frames-ok .result) (c .if4 .taken) (c
 
 returns-5 : tie.Need-returns-5
 returns-5 c =
-    let p = c .before .before .before .before .before .before .before .words-ok in
+    let p = c .before .before .before .before .before .before .before .before .before .words-ok in
     let f = c .before .before .before .before .before .before .before .before .before .before .before .before .before .before .args .fmarks .now in
+    let e : p .result .held ≡ length f - c .before .before .before .before .count-free .result = omega (arith, c .before .before .if3 .left) in
     formed _ (c .before .before .before .before .before .before .before .before .before .before .before .before .before .before .pre)
-    (not-left (c .before .before .before .before .before .before .before .before .before .tables-ok .result) (c .before .before .before .before .before .before .before .before .if1 .left) (c .before .before .before .before .before .before .before .before .before .tables-ok .ensures))
-    (not-left (p .result .ok) (c .before .before .before .before .before .if2 .left) (p .ensures .says))
+    (not-left (c .before .before .before .before .before .before .tables-ok .result) (c .before .before .before .before .before .if2 .left) (c .before .before .before .before .before .before .tables-ok .ensures))
+    (not-left (p .result .ok) (c .before .before .before .before .before .before .before .if1 .left) (p .ensures .says))
     (not-left (c .before .frames-ok .result) (c .if4 .left) (c .before .frames-ok .ensures))
     (p .result .held)
-    (c .before .before .if3 .left ∙ ap (λ (n : ℕ). length f - n) (c .before .before .before .before .count-free .ensures))
-    (counted _ (c .before .before .before .before .before .before .before .before .before .before .before .before .before .before .pre) (p .result .held) (p .ensures .counts (not-false (p .result .ok) (c .before .before .before .before .before .if2 .left))))
+    (e ∙ ap (λ (n : ℕ). length f - n) (c .before .before .before .before .count-free .ensures))
+    (counted _ (c .before .before .before .before .before .before .before .before .before .before .before .before .before .before .pre) (p .result .held) (p .ensures .counts (not-false (p .result .ok) (c .before .before .before .before .before .before .before .if1 .left))))
 
 pub formed-spec : {M : Type 1} → statement M
 formed-spec =
     tie.close
     (tie.spec
-    tables-ok-requires
-    returns
     words-ok-requires
+    returns
+    tables-ok-requires
     returns-2
     count-free-requires
     sub-used

@@ -1,17 +1,18 @@
 -- `well_formed::scan::flag` meets its contract. Assumes nothing.
-use native.Mathlib.Omega.{arith}
-use Rattle.well_formed.proofs.Ors.{flag-lt, flag-zero, flag-right}
+use mathlib.Core.Path.{refl}
+use borrow.Author.Needs.{needs}
+use Rattle.well_formed.proofs.Ors.{flag-right}
 use Rattle.well_formed.proofs.scan.flag.Statement.{statement}
 use Rattle.well_formed.proofs.scan.flag.Tie as tie
 
+add-result : tie.Need-add-result
+add-result c = search needs
+
+add-result-2 : tie.Need-add-result-2
+add-result-2 c = search needs
+
 returns : tie.Need-returns
-returns c = flag-zero _ (c .if1 .taken)
-
-sub-result : tie.Need-sub-result
-sub-result c = omega (arith, flag-lt (c .before .args .x) (c .before .pre))
-
-returns-2 : tie.Need-returns-2
-returns-2 c = flag-right (c .before .args .x) (c .before .pre) (c .if1 .left)
+returns c = flag-right _ _ (c .pre) refl
 
 pub flag-spec : {M : Type 1} → statement M
-flag-spec = tie.close (tie.spec returns sub-result returns-2)
+flag-spec = tie.close (tie.spec add-result add-result-2 returns)
