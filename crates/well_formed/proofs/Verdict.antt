@@ -3,7 +3,7 @@ use mathlib.Core.Path.{_≡_, refl, sym, ap, _∙_}
 use mathlib.Core.Logic.{_⊎_, inl, inr, ⊎-elim}
 use mathlib.Core.List.{List}
 use Prim.Native.Nat.{ℕ, _+_, _-_, _/_, _%_, _^_, _≤_, _<_}
-use native.Mathlib.Nat.{zero-add}
+use native.Mathlib.Nat.{zero-add, eq-zero-or-pos}
 use native.Mathlib.Decide.{ℕ-discrete, decLt}
 use native.Mathlib.Omega.{arith}
 use lib.ListN.{length}
@@ -14,8 +14,8 @@ use Rattle.store.specs.Level.{level}
 use Rattle.store.specs.WellFormed.{Outside, Held, Leaf, WellFormed}
 use Rattle.store.specs.Outcome.{Smallest, NoReason}
 use Rattle.store.specs.declared.Answer.{Answer}
-use Rattle.store.proofs.Sums.{same-yes, same-one}
-use Rattle.store.proofs.Taken.{taken, free-taken}
+use Rattle.store.proofs.Sums.{same-yes, same-one, at-most}
+use Rattle.store.proofs.Taken.{taken, free-taken, taken-some}
 use Rattle.store.proofs.Outcomes.{one-outcome}
 use Rattle.well_formed.specs.Check.{CheckReason, sizes, YesNo, CheckDone, Check}
 use Rattle.well_formed.specs.Scan.{Shape, Over, inWindow, leafWindowed, WordOk, WordsOk, TableOk, FrameOk}
@@ -51,6 +51,13 @@ module _ (s : Store) (z : Sized s) where
   -- the count of frames in use is F less the free ones
   used-count : (n : ℕ) → n ≡ length fs - free fs → sum (λ f. taken (mark fs f)) (length fs) ≡ n
   used-count n e = omega (arith, free-taken fs)
+
+  -- where no frame is in use, W5 has nothing to say
+  pub none-used : length fs - free fs ≡ 0 → (f : ℕ) → f < length fs → FrameOk ws ms fs f
+  none-used e f l =
+      ⊎-elim inl
+      (λ p. absurd (omega (arith, at-most (λ g. taken (mark fs g)) (length fs) f l, used-count 0 (sym e), taken-some (mark fs f) (λ z. omega arith))))
+      (eq-zero-or-pos (mark fs f))
 
   module _ (tables : (t : ℕ) → t < length ms → TableOk ws ms t) (words : WordsOk ws ms 0 (length ws)) (frames : (f : ℕ) → f < length fs → FrameOk ws ms fs f)
       (n : ℕ) (en : n ≡ length fs - free fs) (eq : sum (leafWindowed ws ms) (length ws) ≡ n) where

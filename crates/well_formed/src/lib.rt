@@ -40,6 +40,9 @@ fn formed(words: &[u64], tmarks: &[u32], bytes: &[u8], fmarks: &[u32]) -> bool
     if p.held != used {
         return false;
     }
+    if used == 0 {
+        return true;
+    }
     if !frames::frames_ok(words, tmarks, fmarks) {
         return false;
     }

@@ -7,7 +7,7 @@ use lib.ListN.{length}
 use borrow.Author.Needs.{needs}
 use Rattle.store.proofs.Free.{free-le}
 use Rattle.store.proofs.Tests.{not-left, not-taken}
-use Rattle.well_formed.proofs.Verdict.{formed, words-of, count-of, counted}
+use Rattle.well_formed.proofs.Verdict.{formed, none-used, words-of, count-of, counted}
 use Rattle.well_formed.proofs.formed.Statement.{statement}
 use Rattle.well_formed.proofs.formed.Tie as tie
 
@@ -39,24 +39,39 @@ returns-3 c =
     ∙ count-of _ (c .before .before .before .before .before .before .before .before .before .before .before .before .pre) wf _ (ap (λ (n : ℕ). length f - n) (c .before .before .count-free .ensures)) in
     omega (arith, c .if3 .taken)
 
+returns-4 : tie.Need-returns-4
+returns-4 c =
+    let p = c .before .before .before .before .before .before .before .before .words-ok in
+    let f = c .before .before .before .before .before .before .before .before .before .before .before .before .before .args .fmarks .now in
+    let free = c .before .before .before .count-free in
+    let e : p .result .held ≡ length f - free .result = omega (arith, c .before .if3 .left) in
+    formed _ (c .before .before .before .before .before .before .before .before .before .before .before .before .before .pre)
+    (not-left (c .before .before .before .before .before .tables-ok .result) (c .before .before .before .before .if2 .left) (c .before .before .before .before .before .tables-ok .ensures))
+    (not-left (p .result .ok) (c .before .before .before .before .before .before .if1 .left) (p .ensures .says))
+    (none-used _ (c .before .before .before .before .before .before .before .before .before .before .before .before .before .pre) (sym (ap (λ (n : ℕ). length f - n) (free .ensures)) ∙ c .if4 .taken))
+    (p .result .held)
+    (e ∙ ap (λ (n : ℕ). length f - n) (free .ensures))
+    (counted _ (c .before .before .before .before .before .before .before .before .before .before .before .before .before .pre) (p .result .held) (p .ensures .counts (not-false (p .result .ok) (c .before .before .before .before .before .before .if1 .left))))
+
 frames-ok-requires : tie.Need-frames-ok-requires
 frames-ok-requires c κs = search needs
 
-returns-4 : tie.Need-returns-4
-returns-4 c = λ wf. not-taken (c .before .frames-ok .result) (c .if4 .taken) (c .before .frames-ok .ensures) (wf .w5)
-
 returns-5 : tie.Need-returns-5
-returns-5 c =
-    let p = c .before .before .before .before .before .before .before .before .before .words-ok in
-    let f = c .before .before .before .before .before .before .before .before .before .before .before .before .before .before .args .fmarks .now in
-    let e : p .result .held ≡ length f - c .before .before .before .before .count-free .result = omega (arith, c .before .before .if3 .left) in
-    formed _ (c .before .before .before .before .before .before .before .before .before .before .before .before .before .before .pre)
-    (not-left (c .before .before .before .before .before .before .tables-ok .result) (c .before .before .before .before .before .if2 .left) (c .before .before .before .before .before .before .tables-ok .ensures))
-    (not-left (p .result .ok) (c .before .before .before .before .before .before .before .if1 .left) (p .ensures .says))
-    (not-left (c .before .frames-ok .result) (c .if4 .left) (c .before .frames-ok .ensures))
+returns-5 c = λ wf. not-taken (c .before .frames-ok .result) (c .if5 .taken) (c .before .frames-ok .ensures) (wf .w5)
+
+returns-6 : tie.Need-returns-6
+returns-6 c =
+    let p = c .before .before .before .before .before .before .before .before .before .before .words-ok in
+    let f = c .before .before .before .before .before .before .before .before .before .before .before .before .before .before .before .args .fmarks .now in
+    let free = c .before .before .before .before .before .count-free in
+    let e : p .result .held ≡ length f - free .result = omega (arith, c .before .before .before .if3 .left) in
+    formed _ (c .before .before .before .before .before .before .before .before .before .before .before .before .before .before .before .pre)
+    (not-left (c .before .before .before .before .before .before .before .tables-ok .result) (c .before .before .before .before .before .before .if2 .left) (c .before .before .before .before .before .before .before .tables-ok .ensures))
+    (not-left (p .result .ok) (c .before .before .before .before .before .before .before .before .if1 .left) (p .ensures .says))
+    (not-left (c .before .frames-ok .result) (c .if5 .left) (c .before .frames-ok .ensures))
     (p .result .held)
-    (e ∙ ap (λ (n : ℕ). length f - n) (c .before .before .before .before .count-free .ensures))
-    (counted _ (c .before .before .before .before .before .before .before .before .before .before .before .before .before .before .pre) (p .result .held) (p .ensures .counts (not-false (p .result .ok) (c .before .before .before .before .before .before .before .if1 .left))))
+    (e ∙ ap (λ (n : ℕ). length f - n) (free .ensures))
+    (counted _ (c .before .before .before .before .before .before .before .before .before .before .before .before .before .before .before .pre) (p .result .held) (p .ensures .counts (not-false (p .result .ok) (c .before .before .before .before .before .before .before .before .if1 .left))))
 
 pub formed-spec : {M : Type 1} → statement M
 formed-spec =
@@ -69,6 +84,7 @@ formed-spec =
     count-free-requires
     sub-used
     returns-3
-    frames-ok-requires
     returns-4
-    returns-5)
+    frames-ok-requires
+    returns-5
+    returns-6)
