@@ -1,16 +1,29 @@
 //! Lays the files of the Rust and the shims beside each other in one tree of symbolic links,
 //! so that the Rust is compiled as it stands, and tells the linker where the archives are.
+//! Without the feature `rust` only the latter.
 
 use std::os::unix::fs::symlink;
 use std::path::{Path, PathBuf};
 use std::{env, fs};
 
 const RUST_FILES: &str = "rust-files.txt";
-const ARCHIVES: [&str; 3] = ["libaddress.a", "librounding.a", "libpage_table_entry.a"];
+const ARCHIVES: [&str; 5] =
+    ["libaddress.a", "librounding.a", "libpage_table_entry.a", "libstore.a", "libwell_formed.a"];
 
 fn main() {
-    let rust = given_folder("RONAKVESH_RUST");
+    if env::var_os("CARGO_FEATURE_RUST").is_some() {
+        lay_out(&given_folder("RONAKVESH_RUST"));
+    }
     let archives = given_folder("RONAKVESH_ARCHIVES");
+    println!("cargo:rerun-if-changed=build.rs");
+    println!("cargo:rustc-link-search=native={}", archives.display());
+    for archive in ARCHIVES {
+        println!("cargo:rerun-if-changed={}", archives.join(archive).display());
+    }
+}
+
+/// Lays out the tree in which the Rust is compiled.
+fn lay_out(rust: &Path) {
     let out = PathBuf::from(env::var_os("OUT_DIR").expect("cargo sets OUT_DIR"));
     let tree = out.join("kernel");
     if tree.exists() {
@@ -21,10 +34,6 @@ fn main() {
     }
     link_folder(&fs::canonicalize("shims").expect("shims"), &tree.join("src"));
     println!("cargo:rerun-if-changed={RUST_FILES}");
-    println!("cargo:rustc-link-search=native={}", archives.display());
-    for archive in ARCHIVES {
-        println!("cargo:rerun-if-changed={}", archives.join(archive).display());
-    }
 }
 
 /// The folder that an environment variable names.

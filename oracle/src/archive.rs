@@ -1,7 +1,8 @@
-//! The proved helpers, as their archives export them. They take numbers only, so every call is safe.
+//! The proved functions, as their archives export them. The helpers take numbers only, so every call of them is safe.
 
 /// Number 0 and the value, or a refusal's number and value 0.
 #[repr(C)]
+#[derive(PartialEq, Eq)]
 pub struct Reply {
     pub number: u64,
     pub value: u64,
@@ -63,4 +64,34 @@ unsafe extern "C" {
     pub safe fn ronakvesh_entry_as_flags(entry: u64) -> u64;
     pub safe fn ronakvesh_entry_write_zero() -> u64;
     pub safe fn ronakvesh_entry_write_perm(pa: u64, permissions: u64) -> Reply;
+}
+
+// A lent slice is a pointer to its first element, then how many elements it has. No two of them may overlap.
+
+#[link(name = "store", kind = "static")]
+unsafe extern "C" {
+    pub fn ronakvesh_set_up(
+        words: *mut u64,
+        words_length: usize,
+        table_marks: *mut u32,
+        table_marks_length: usize,
+        bytes: *mut u8,
+        bytes_length: usize,
+        frame_marks: *mut u32,
+        frame_marks_length: usize,
+    ) -> Reply;
+}
+
+#[link(name = "well_formed", kind = "static")]
+unsafe extern "C" {
+    pub fn ronakvesh_check(
+        words: *const u64,
+        words_length: usize,
+        table_marks: *const u32,
+        table_marks_length: usize,
+        bytes: *const u8,
+        bytes_length: usize,
+        frame_marks: *const u32,
+        frame_marks_length: usize,
+    ) -> Reply;
 }

@@ -3,10 +3,12 @@
 
 mod addresses;
 mod answer;
+#[allow(dead_code)] // declares the calls on a store too
 mod archive;
 mod compare;
 mod entries;
 mod listed;
+mod random;
 mod report;
 mod rounding;
 mod values;

@@ -3,7 +3,7 @@
 use crate::answer::{Answer, Build};
 use crate::compare::{Helper, Tally};
 use crate::listed::Listed;
-use crate::values::SEED;
+use crate::random::SEED;
 
 /// The head of a build's table.
 pub fn heading(build: Build, boundaries: usize, count: u64) {

@@ -1,0 +1,32 @@
+//! `uvm_unmap`: 1, 2, 3, 6, 7, 10, 11, 13.
+
+use crate::model::entries::{address, flags, pool_frame, V};
+use crate::model::judge::{self, refuse};
+use crate::model::numbers::{PAGE, PAGES};
+use crate::model::pool::give_back_frame;
+use crate::model::walk::mapped_word;
+use crate::model::Store;
+
+/// Unmaps `npages` pages; with freeing, their pool frames are given back. Answer: 0.
+pub fn uvm_unmap(store: &mut Store, root: u64, va: u64, npages: u64, freeing: bool) -> Result<u64, u64> {
+    judge::store(store)?;
+    let root = judge::root(store, root)?;
+    refuse(6, npages > PAGES)?;
+    let first = va / PAGE;
+    let pages = first..first + npages;
+    judge::height(&pages)?;
+    refuse(7, va % PAGE != 0)?;
+    let words: Vec<Option<usize>> = pages.map(|page| mapped_word(store, root, page)).collect();
+    let mapped: Vec<usize> = words.iter().copied().flatten().collect();
+    let frame_of = |store: &Store, word: usize| pool_frame(store, address(store.words[word]));
+    refuse(10, !freeing && mapped.iter().any(|&word| frame_of(store, word).is_some()))?;
+    refuse(11, mapped.len() < words.len())?;
+    refuse(13, mapped.iter().any(|&word| flags(store.words[word]) == V))?;
+    for word in mapped {
+        if let Some(frame) = frame_of(store, word) {
+            give_back_frame(store, frame);
+        }
+        store.words[word] = 0;
+    }
+    Ok(0)
+}
