@@ -3,10 +3,13 @@ use mathlib.Core.Path.{refl}
 use Prim.Native.Nat.{ℕ}
 use Rattle.rounding.specs.Range.{Covers}
 use Rattle.page_table_entry.specs.Built.{written}
+use Rattle.store.specs.Count.{zeros}
+use Rattle.store.specs.Walk.{slotWord, slot}
+use Rattle.walk.specs.Missing.{span, missingIn, missing}
 use Rattle.samples.specs.Samples.{Samples}
 
 pub samples : Samples
-unfolding written
+unfolding written missing missingIn span zeros slot slotWord
 samples = (
   (refl, refl, refl),
   (refl, refl, refl),
@@ -17,5 +20,7 @@ samples = (
   record { from = refl; upto = refl },
   record { from = refl; upto = refl },
   record { from = refl; upto = refl },
+  refl,
+  refl,
   (refl, refl),
 )

@@ -14,6 +14,10 @@ pub isZero-pos : (n : ℕ) → (n ≡ 0 → ⊥) → isZero n ≡ 0
 isZero-pos zero h = absurd (h refl)
 isZero-pos (suc n) h = refl
 
+pub isZero-le : (m : ℕ) → isZero m ≤ 1
+isZero-le zero = omega arith
+isZero-le (suc m) = omega arith
+
 lowest-zero : (x : ℕ) (l : List ℕ) → x ≡ 0 → lowest (x ∷ l) ≡ 0
 lowest-zero zero l e = refl
 lowest-zero (suc x) l e = absurd (omega arith)
@@ -41,14 +45,10 @@ zeros-next g (suc n) c =
 pub zeros-more : (g : ℕ → ℕ) (n i m : ℕ) → n ≡ zeros g i 0 → m ≡ isZero (g i) → n + m ≡ zeros g (i + 1) 0
 zeros-more g n i m e f = rw add-one (omega (arith, zeros-next g i 0, ap (λ (x : ℕ). isZero (g x)) (zero-add i)))
 
-zeros-le : (g : ℕ → ℕ) (n c : ℕ) → zeros g n c ≤ n
+pub zeros-le : (g : ℕ → ℕ) (n c : ℕ) → zeros g n c ≤ n
 unfolding zeros
 zeros-le g zero c = omega arith
 zeros-le g (suc n) c = omega (arith, zeros-le g n (suc c), isZero-le (g c))
-  where
-    isZero-le : (m : ℕ) → isZero m ≤ 1
-    isZero-le zero = omega arith
-    isZero-le (suc m) = omega arith
 
 -- no more are free than there are
 pub free-le : (ms : List ℕ) → free ms ≤ length ms

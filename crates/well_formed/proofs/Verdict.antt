@@ -1,5 +1,5 @@
 -- From the scans to W1 to W5, and back; and that the check answers in one way. Assumes nothing.
-use mathlib.Core.Path.{_≡_, refl, sym, ap, _∙_}
+use mathlib.Core.Path.{_≡_, sym, _∙_, subst⁻¹}
 use mathlib.Core.Logic.{_⊎_, inl, inr, ⊎-elim}
 use mathlib.Core.List.{List}
 use Prim.Native.Nat.{ℕ, _+_, _-_, _/_, _%_, _^_, _≤_, _<_}
@@ -17,7 +17,7 @@ use Rattle.store.specs.declared.Answer.{Answer}
 use Rattle.store.proofs.Sums.{same-yes, same-one, at-most}
 use Rattle.store.proofs.Taken.{taken, free-taken, taken-some}
 use Rattle.store.proofs.Outcomes.{one-outcome}
-use Rattle.well_formed.specs.Check.{CheckReason, sizes, YesNo, CheckDone, Check}
+use Rattle.well_formed.specs.Check.{CheckReason, sizes, YesNo, CheckDone, Check, Judged}
 use Rattle.well_formed.specs.Scan.{Shape, Over, inWindow, leafWindowed, WordOk, WordsOk, TableOk, FrameOk}
 use Rattle.well_formed.proofs.Pool.{all-held, counts-equal}
 
@@ -114,3 +114,15 @@ module _ (s : Store) where
   pub one-check : (a a′ : Answer) → Check s a → Check s a′ → a ≡ a′
   one-check a a′ p q =
       one-outcome (CheckReason s) (CheckDone s) (λ v v′ t t′ x y. (one-value v v′ (x .0) (y .0), x .1 ∙ sym (y .1))) s a a′ s s p q .0
+
+-- what a call learns from the judge: a reason 1 or 2, or that the store is as it should be
+module _ (s : Store) where
+  pub judged-no : (R : ℕ → Type 0) → ((Sized s → ⊥) → Smallest R 1) → (Sized s → (WellFormed s → ⊥) → Smallest R 2) → (n : ℕ) → Judged s n → (n ≡ 0 → ⊥) → Smallest R n
+  judged-no R one two n (inl p) h = subst⁻¹ (Smallest R) (p .0) (one (p .1))
+  judged-no R one two n (inr (inl p)) h = subst⁻¹ (Smallest R) (p .0) (two (p .1) (p .2))
+  judged-no R one two n (inr (inr p)) h = absurd (h (p .0))
+
+  pub judged-ok : (n : ℕ) → Judged s n → n ≡ 0 → Sized s × WellFormed s
+  judged-ok n (inl p) e = absurd (omega (arith, p .0))
+  judged-ok n (inr (inl p)) e = absurd (omega (arith, p .0))
+  judged-ok n (inr (inr p)) e = (p .1, p .2)

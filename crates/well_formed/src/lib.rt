@@ -9,6 +9,7 @@ mod scan;
 mod tables;
 mod words;
 
+pub use scan::zeros;
 use store::Answer;
 ghost use Prim.Native.Nat.{_*_};
 ghost use mathlib.Core.Path.{_≡_};

@@ -1,10 +1,10 @@
--- `walk::slot_of` meets its contract: three reads, one below the other. Assumes nothing.
+-- `walk::steps::slot_of` meets its contract: three reads, one below the other. Assumes nothing.
 use mathlib.Core.Path.{ap, _∙_}
 use Prim.Native.Nat.{ℕ, _/_, _%_}
 use borrow.Author.Needs.{needs}
 use Rattle.store.specs.Walk.{slotWord, slotIn, slot}
-use Rattle.walk.proofs.slot_of.Statement.{statement}
-use Rattle.walk.proofs.slot_of.Tie as tie
+use Rattle.walk.proofs.steps.slot_of.Statement.{statement}
+use Rattle.walk.proofs.steps.slot_of.Tie as tie
 
 mul-slot-word : tie.Need-mul-slot-word
 mul-slot-word c = search needs

@@ -1,0 +1,58 @@
+// What a page translates to, and the number of a root for the satp register.
+use super::steps;
+use address::VirtualAddress;
+use page_table_entry::PageTableEntry;
+use store::Answer;
+ghost use Rattle.store.specs.Store.{storeOf};
+ghost use Rattle.walk.specs.Translate.{Translate};
+ghost use Rattle.walk.specs.Satp.{Satp};
+
+const MAXVA: u64 = 1 << 38;
+
+// The address of the frame that the page of va resolves to, which must have U.
+pub fn pgt_translate(
+    words: &[u64],
+    tmarks: &[u32],
+    bytes: &[u8],
+    fmarks: &[u32],
+    root: u64,
+    va: VirtualAddress,
+) -> Answer
+    ensures { λ r. ⌜ Translate (storeOf (now (words .entry)) (now (tmarks .entry)) (now (bytes .entry)) (now (fmarks .entry))) root (va .0) r ⌝ }
+{
+    let no = well_formed::judge_store(words, tmarks, bytes, fmarks);
+    if no != 0 {
+        return Answer::Refused(no);
+    }
+    let r = root as usize;
+    if store::mark_at(tmarks, r) != 1 {
+        return Answer::Refused(3);
+    }
+    if va.0 >= MAXVA {
+        return Answer::Refused(6);
+    }
+    let m = steps::slot_of(words, r, (va.0 / 4096) as usize);
+    let e = PageTableEntry(steps::slot_word(words, m));
+    if !e.is_valid() {
+        return Answer::Refused(11);
+    }
+    if !e.is_user() {
+        return Answer::Refused(12);
+    }
+    let frame = e.as_pagetable();
+    Answer::Done(frame.0)
+}
+
+// Mode 8 in bits 60 to 63, and the frame number of the root's table.
+pub fn as_satp(words: &[u64], tmarks: &[u32], bytes: &[u8], fmarks: &[u32], root: u64) -> Answer
+    ensures { λ r. ⌜ Satp (storeOf (now (words .entry)) (now (tmarks .entry)) (now (bytes .entry)) (now (fmarks .entry))) root r ⌝ }
+{
+    let no = well_formed::judge_store(words, tmarks, bytes, fmarks);
+    if no != 0 {
+        return Answer::Refused(no);
+    }
+    if store::mark_at(tmarks, root as usize) != 1 {
+        return Answer::Refused(3);
+    }
+    Answer::Done(0x8000_0000_0010_0000 + root)
+}
