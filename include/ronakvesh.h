@@ -3,9 +3,13 @@
  * Addresses, entries and permissions are plain 64-bit numbers. A function that can refuse returns a ronakvesh_reply:
  * look at its number before its value. Every other function answers for each argument. The numbers given here are
  *   1  a store of the wrong sizes
- *   6  a result that leaves 64 bits, or a level above 2
+ *   2  a store that is not well formed
+ *   3  a root that is none
+ *   6  a result that leaves 64 bits, a level above 2, or a page at or above 2^38
  *   8  permissions above 1023
  *   9  a physical address at or above 2^56
+ *  11  a page that is not mapped
+ *  12  a page that lacks U
  * Where more than one applies, the smallest is given. */
 #ifndef RONAKVESH_H
 #define RONAKVESH_H
@@ -127,6 +131,16 @@ ronakvesh_reply ronakvesh_set_up(uint64_t *words, size_t word_count, uint32_t *t
 /* libwell_formed.a: the value is 1 where the store is well formed and 0 where it is not; 1 where the sizes are wrong. */
 ronakvesh_reply ronakvesh_check(const uint64_t *words, size_t word_count, const uint32_t *table_marks, size_t tables,
                                 const uint8_t *bytes, size_t byte_count, const uint32_t *frame_marks, size_t frames);
+
+/* libwalk.a: the address of the frame that the page of va resolves to in a root, without the offset; 1, 2, 3, 6, 11, 12. */
+ronakvesh_reply ronakvesh_pgt_translate(const uint64_t *words, size_t word_count, const uint32_t *table_marks, size_t tables,
+                                        const uint8_t *bytes, size_t byte_count, const uint32_t *frame_marks,
+                                        size_t frames, uint64_t root, uint64_t va);
+
+/* libwalk.a: the number that the satp register takes for a root; 1, 2, 3. */
+ronakvesh_reply ronakvesh_as_satp(const uint64_t *words, size_t word_count, const uint32_t *table_marks, size_t tables,
+                                  const uint8_t *bytes, size_t byte_count, const uint32_t *frame_marks, size_t frames,
+                                  uint64_t root);
 
 #ifdef __cplusplus
 }

@@ -5,6 +5,7 @@ use address::VirtualAddress;
 use libc::STDOUT_FILENO;
 use page_table_entry::EntryAnswer;
 use page_table_entry::PageTableEntry;
+ghost use Prim.Native.Nat.{_^_, _≤_};
 
 fn put(text: &[u8]) {
     io::write_all(STDOUT_FILENO, text);
@@ -61,6 +62,16 @@ fn pages(name: &[u8], va: u64, size: u64) {
     put(b"\n");
 }
 
+// The tables that pages of root 0 miss in a fresh store of 8 tables.
+fn missing(name: &[u8], first: usize, end: usize)
+    requires { ⌜ (first ≤ end) × (end ≤ 2 ^ 26) ⌝ }
+{
+    let words = [0u64; 4096];
+    put(name);
+    put_number(walk::missing_tables(&words, 0, first, end) as u64);
+    put(b"\n");
+}
+
 // The address and the flags of an entry.
 fn parts(name: &[u8], e: u64) {
     put(name);
@@ -79,6 +90,8 @@ fn main() {
     pages(b"S7", 0x1001, 0);
     pages(b"S8", 0x1000, 0);
     pages(b"S9", 0xFFF, 2);
+    missing(b"S10", 262143, 262145);
+    missing(b"S11", 511, 1024);
     parts(b"S12", 0x2000_0007);
     entry(b"S15", 0, 1023);
     entry(b"S15", 0, 1024);
