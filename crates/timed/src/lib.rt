@@ -2,7 +2,12 @@
 
 // The tables that the pages from first up to end of a root lack, or 0 where one of them is mapped or there is no such range.
 #[no_mangle]
-pub extern "C" fn ronakvesh_timed_range(words: &[u64], root: usize, first: usize, end: usize) -> u64 {
+pub extern "C" fn ronakvesh_timed_range(
+    words: &[u64],
+    root: usize,
+    first: usize,
+    end: usize,
+) -> u64 {
     if 512 <= root {
         return 0;
     }

@@ -1,6 +1,6 @@
 -- `pgt_translate`: why it is refused, and what it answers. It changes nothing.
 use mathlib.Core.Path.{_≡_}
-use Prim.Native.Nat.{ℕ, _+_, _/_, _%_, _^_, _≤_}
+use Prim.Native.Nat.{ℕ, _/_, _^_, _≤_}
 use Rattle.address.specs.Field.{bit}
 use Rattle.address.specs.declared.Reply.{Reply}
 use Rattle.page_table_entry.specs.Layout.{bitU, frameOf}
