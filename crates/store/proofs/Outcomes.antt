@@ -5,7 +5,7 @@ use Prim.Native.Nat.{ℕ, _<_}
 use native.Mathlib.Decide.{decLt}
 use native.Mathlib.Omega.{arith}
 use Rattle.store.specs.Store.{Store}
-use Rattle.store.specs.Outcome.{Smallest, Outcome}
+use Rattle.store.specs.Outcome.{Smallest, Outcome, Judges}
 use Rattle.store.specs.declared.Answer.{Answer}
 use Rattle.store.specs.declared.Answer.the-variants.{Refused, Done}
 
@@ -21,3 +21,10 @@ module _ (R : ℕ → Type 0) (D : ℕ → Store → Type 0) (one : (v v′ : �
   one-outcome (Refused m) (Done v) t t′ p q = absurd (q .0 m (p .0 .applies))
   one-outcome (Done v) (Refused n) t t′ p q = absurd (p .0 n (q .0 .applies))
   one-outcome (Done v) (Done v′) t t′ p q = let e = one v v′ t t′ (p .1) (q .1) in (ap Done (e .0), e .1)
+
+-- a judge that found a reason, and one that found none
+pub judges-no : (R : ℕ → Type 0) (F : Type 0) (n : ℕ) → (n ≡ 0 → ⊥) → Smallest R n → Judges R F n
+judges-no R F n h s = record { ready = λ e. absurd (h e); reason = λ _. s }
+
+pub judges-ok : (R : ℕ → Type 0) (F : Type 0) (n : ℕ) → n ≡ 0 → F → Judges R F n
+judges-ok R F n e f = record { ready = λ _. f; reason = λ h. absurd (h e) }

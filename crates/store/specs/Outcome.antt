@@ -30,3 +30,8 @@ NoReason R = (k : ℕ) → R k → ⊥
 abbrev pub Outcome : (R : ℕ → Type 0) → (D : ℕ → Store → Type 0) → Store → Answer → Store → Type 0
 Outcome R D s (Refused n) s′ = Smallest R n × (s′ ≡ s)
 Outcome R D s (Done v) s′ = NoReason R × D v s′
+
+-- what a judge of a call answers: the smallest reason, or 0 and what holds where there is none
+pub record Judges (R : ℕ → Type 0) (F : Type 0) (n : ℕ) : Type 0 where
+  pub ready : n ≡ 0 → F
+  pub reason : (n ≡ 0 → ⊥) → Smallest R n

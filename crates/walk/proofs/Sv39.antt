@@ -55,7 +55,7 @@ module _ (s : Store) (z : Sized s) (c : WellFormed s) (r : ℕ) (rr : mark (s .t
       ap (slotWord (s .words)) e ∙ omega (arith, tr .none)
 
   -- a level-0 word that is not 0 has V, and its bits 54 to 63 are clear
-  word-shape : (p : ℕ) → top 2 p < 512 → 0 < resolve s r p → (resolve s r p % 2 ≡ 1) × (resolve s r p < 2 ^ 54)
+  pub word-shape : (p : ℕ) → top 2 p < 512 → 0 < resolve s r p → (resolve s r p % 2 ≡ 1) × (resolve s r p < 2 ^ 54)
   unfolding entryAt
   word-shape p h l =
       let m : ℕ = slot (slotWord (s .words)) r 2 p in

@@ -1,0 +1,127 @@
+-- `enterPage`: the page has its entry, its two tables are there, and every other walk finds what it found. Assumes nothing.
+use mathlib.Core.Path.{_≡_, sym, ap, _∙_}
+use mathlib.Core.Logic.{⊎-elim, _↔_}
+use Prim.Native.Nat.{ℕ, zero, suc, _+_, _/_, _%_, _^_, _≤_, _<_}
+use native.Mathlib.Omega.{arith}
+use Rattle.store.specs.Store.{Store, Sized, mark, frameNo}
+use Rattle.store.specs.WellFormed.{Outside}
+use Rattle.store.specs.Count.{isZero, freeTables}
+use Rattle.store.specs.Walk.{slotWord, slotIn, slot, entryAt}
+use Rattle.store.proofs.Tree.{LeafIn, TreeOf, top}
+use Rattle.store.proofs.Walk.{reach, top-of}
+use Rattle.map.specs.Enter.{stored, hang, enterPage}
+use Rattle.map.proofs.Step.{Step}
+use Rattle.map.proofs.Hang.{hung}
+use Rattle.map.proofs.Write.{store-here, store-step}
+
+-- what the walk for page p looks up at depth d: the group of the page, its block, the page itself
+unfoldable pub part : ℕ → ℕ → ℕ
+part zero p = p / 512 / 512
+part (suc zero) p = p / 512
+part (suc (suc d)) p = p
+
+-- entries that need no mark of a frame: W4 allows them at level 0 wherever they stand
+pub record Plain (e : ℕ) : Type 0 where
+  pub valid : e % 2 ≡ 1
+  pub small : e < 2 ^ 54
+  pub outside : Outside (frameNo e)
+
+pub plain-leaf : (f : ℕ → ℕ) (m e : ℕ) → Plain e → LeafIn f m e
+plain-leaf f m e k = record {
+  valid = k .valid;
+  small = k .small;
+  held = λ a b. absurd (⊎-elim (λ l. omega arith) (λ l. omega arith) (k .outside));
+}
+
+-- how many of the two tables of page p are missing
+abbrev pub lacks : Store → ℕ → ℕ → ℕ
+lacks s r p = isZero (entryAt s r 0 (p / 512 / 512)) + isZero (entryAt s r 1 (p / 512))
+
+-- page p of root r got the entry e
+pub record PageEntered (s s′ : Store) (r p e : ℕ) : Type 0 where
+  pub sized : Sized s′
+  pub tree : TreeOf s′
+  pub roots : (t : ℕ) → (mark (s .tmarks) t ≡ 1) ↔ (mark (s′ .tmarks) t ≡ 1)
+  pub bytes : s′ .bytes ≡ s .bytes
+  pub fmarks : s′ .fmarks ≡ s .fmarks
+  pub here : entryAt s′ r 2 p ≡ e
+  pub group : 0 < entryAt s′ r 0 (p / 512 / 512)
+  pub block : 0 < entryAt s′ r 1 (p / 512)
+  pub rest : (r′ d x : ℕ) → mark (s .tmarks) r′ ≡ 1 → top d x < 256 → d ≤ 2 → (r′ ≡ r → x ≡ part d p → ⊥) → entryAt s′ r′ d x ≡ entryAt s r′ d x
+  pub free : freeTables s ≡ lacks s r p + freeTables s′
+
+module _ (s : Store) (z : Sized s) (w : TreeOf s) (r p e : ℕ) (rr : mark (s .tmarks) r ≡ 1) (h : p < 2 ^ 26) (none : entryAt s r 2 p ≡ 0) (ok : Plain e)
+    (fr : lacks s r p ≤ freeTables s) where
+  -- the store with the level-1 table, and then with the level-0 table
+  abbrev s₁ : Store
+  s₁ = hang s (slot (slotWord (s .words)) r 0 (p / 512 / 512))
+
+  abbrev s₀ : Store
+  s₀ = hang s₁ (slot (slotWord (s₁ .words)) r 1 (p / 512))
+
+  t₁ : Step s s₁ r 0 (p / 512 / 512) × (0 < entryAt s₁ r 0 (p / 512 / 512)) × (freeTables s ≡ isZero (entryAt s r 0 (p / 512 / 512)) + freeTables s₁)
+  unfolding slot top
+  t₁ = hung s z w r 0 (p / 512 / 512) rr (omega arith) (omega arith) (omega arith) (omega arith)
+
+  same₁ : entryAt s₁ r 1 (p / 512) ≡ entryAt s r 1 (p / 512)
+  unfolding top
+  same₁ = t₁ .0 .rest r 1 (p / 512) rr (omega arith) (omega arith) (λ a b c. omega arith)
+
+  rr₁ : mark (s₁ .tmarks) r ≡ 1
+  rr₁ = t₁ .0 .roots r .0 rr
+
+  t₀ : Step s₁ s₀ r 1 (p / 512) × (0 < entryAt s₀ r 1 (p / 512)) × (freeTables s₁ ≡ isZero (entryAt s₁ r 1 (p / 512)) + freeTables s₀)
+  unfolding top entryAt
+  t₀ =
+      hung s₁ (t₁ .0 .sized) (t₁ .0 .tree) r 1 (p / 512) rr₁ (omega arith) (omega arith)
+      (reach (t₁ .0 .tree) r 0 (p / 512) rr₁ (omega arith) (omega arith) (t₁ .1)) (omega (arith, t₁ .2, ap isZero same₁))
+
+  rr₀ : mark (s₀ .tmarks) r ≡ 1
+  rr₀ = t₀ .0 .roots r .0 rr₁
+
+  m2 : 2 ≤ slot (slotWord (s₀ .words)) r 2 p
+  unfolding top entryAt
+  m2 = reach (t₀ .0 .tree) r 1 p rr₀ (omega arith) (omega arith) (t₀ .1)
+
+  none₀ : entryAt s₀ r 2 p ≡ 0
+  unfolding top
+  none₀ =
+      t₀ .0 .rest r 2 p rr₁ (omega arith) (omega arith) (λ a b c. omega arith)
+      ∙ t₁ .0 .rest r 2 p rr (omega arith) (omega arith) (λ a b c. omega arith) ∙ none
+
+  ok₀ : LeafIn (mark (s₀ .fmarks)) (slot (slotWord (s₀ .words)) r 2 p) e
+  ok₀ = plain-leaf (mark (s₀ .fmarks)) (slot (slotWord (s₀ .words)) r 2 p) e ok
+
+  -- the slot that `enterPage` writes to is the one that the page's walk reads
+  pub write-slot : enterPage s r p e ≡ stored s₀ (slot (slotWord (s₀ .words)) r 2 p) e
+  unfolding enterPage slot
+  write-slot = ap (λ (m : ℕ). stored s₀ (slotIn (slotWord (s₀ .words) m) (p % 512)) e) (sym (t₀ .0 .place))
+
+  entered : PageEntered s (stored s₀ (slot (slotWord (s₀ .words)) r 2 p) e) r p e
+  unfolding top part
+  entered =
+      let t = store-step s₀ (t₀ .0 .sized) (t₀ .0 .tree) r p e rr₀ (top-of p h) m2 none₀ ok₀ in
+      record {
+        sized = t .sized;
+        tree = t .tree;
+        roots = λ y. (λ q. t .roots y .0 (t₀ .0 .roots y .0 (t₁ .0 .roots y .0 q)), λ q. t₁ .0 .roots y .1 (t₀ .0 .roots y .1 (t .roots y .1 q)));
+        bytes = t .bytes ∙ t₀ .0 .bytes ∙ t₁ .0 .bytes;
+        fmarks = t .fmarks ∙ t₀ .0 .fmarks ∙ t₁ .0 .fmarks;
+        here = store-here s₀ (t₀ .0 .sized) (t₀ .0 .tree) r p e rr₀ (top-of p h) m2 none₀ ok₀;
+        group = omega (
+          arith,
+          t .rest r 0 (p / 512 / 512) rr₀ (omega arith) (omega arith) (λ a b c. omega arith),
+          t₀ .0 .rest r 0 (p / 512 / 512) rr₁ (omega arith) (omega arith) (λ a b c. omega arith),
+          t₁ .1,
+        );
+        block = omega (arith, t .rest r 1 (p / 512) rr₀ (omega arith) (omega arith) (λ a b c. omega arith), t₀ .1);
+        rest = λ r′ d x q l b n.
+            let q₁ = t₁ .0 .roots r′ .0 q in
+            t .rest r′ d x (t₀ .0 .roots r′ .0 q₁) l b (λ a c f. n c (f ∙ ap (λ (y : ℕ). part y p) (sym a)))
+            ∙ t₀ .0 .rest r′ d x q₁ l b (λ a c f. n c (f ∙ ap (λ (y : ℕ). part y p) (sym a)))
+            ∙ t₁ .0 .rest r′ d x q l b (λ a c f. n c (f ∙ ap (λ (y : ℕ). part y p) (sym a)));
+        free = omega (arith, t₁ .2, t₀ .2, ap isZero same₁);
+      }
+
+  pub enter-page : PageEntered s (enterPage s r p e) r p e
+  enter-page = rw write-slot entered

@@ -1,0 +1,5 @@
+-- What the contract of `map` cites.
+pub mod Numbers
+pub mod Reasons
+pub mod Enter
+pub mod Demand3

@@ -1,0 +1,4 @@
+// Mapping a range of pages, after `map` of page_table.rs: judged whole before the first write.
+mod judge;
+
+pub use judge::judge_map;
