@@ -7,8 +7,8 @@ use std::path::{Path, PathBuf};
 use std::{env, fs};
 
 const RUST_FILES: &str = "rust-files.txt";
-const ARCHIVES: [&str; 5] =
-    ["libaddress.a", "librounding.a", "libpage_table_entry.a", "libstore.a", "libwell_formed.a"];
+const ARCHIVES: [&str; 6] =
+    ["libaddress.a", "librounding.a", "libpage_table_entry.a", "libstore.a", "libwell_formed.a", "libwalk.a"];
 
 fn main() {
     if env::var_os("CARGO_FEATURE_RUST").is_some() {

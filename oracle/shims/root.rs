@@ -9,6 +9,7 @@ pub mod arch;
 pub mod boxed;
 pub mod process;
 pub mod trap;
+pub mod window;
 
 #[allow(warnings, clippy::all)]
 pub mod memory;

@@ -95,3 +95,31 @@ unsafe extern "C" {
         frame_marks_length: usize,
     ) -> Reply;
 }
+
+#[link(name = "walk", kind = "static")]
+unsafe extern "C" {
+    pub fn ronakvesh_pgt_translate(
+        words: *const u64,
+        words_length: usize,
+        table_marks: *const u32,
+        table_marks_length: usize,
+        bytes: *const u8,
+        bytes_length: usize,
+        frame_marks: *const u32,
+        frame_marks_length: usize,
+        root: u64,
+        va: u64,
+    ) -> Reply;
+
+    pub fn ronakvesh_as_satp(
+        words: *const u64,
+        words_length: usize,
+        table_marks: *const u32,
+        table_marks_length: usize,
+        bytes: *const u8,
+        bytes_length: usize,
+        frame_marks: *const u32,
+        frame_marks_length: usize,
+        root: u64,
+    ) -> Reply;
+}

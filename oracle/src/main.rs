@@ -8,6 +8,7 @@ mod archive;
 mod compare;
 mod entries;
 mod listed;
+mod panics;
 mod random;
 mod report;
 mod rounding;
@@ -22,7 +23,7 @@ fn main() -> ExitCode {
         eprintln!("usage: oracle wrapping|checked COUNT");
         return ExitCode::from(2);
     };
-    compare::quiet_panics();
+    panics::quiet_panics();
     let boundaries = values::boundaries();
     report::heading(build, boundaries.len(), count);
     let mut tallies = Vec::new();

@@ -54,12 +54,8 @@ struct Batch<'a> {
 impl<'a> Batch<'a> {
     fn new(number: u64, tally: &'a mut Tally) -> Self {
         let mut random = Random::new(number + 1);
-        let (tables, frames) = sizes(number, &mut random);
-        let mut store = Store::zeros(tables, frames);
-        for bytes in store.bytes.chunks_exact_mut(8) {
-            bytes.copy_from_slice(&random.uniform().to_le_bytes());
-        }
-        Batch { number, random, trial: Trial::new(store), kinds: changes::all().collect(), tally }
+        let trial = Trial::new(fresh(number, &mut random));
+        Batch { number, random, trial, kinds: changes::all().collect(), tally }
     }
 
     /// Compares on this many stores: each grown one, and changed ones made of it.
@@ -92,16 +88,7 @@ impl<'a> Batch<'a> {
 
     /// Makes one to three changes, and names their kinds.
     fn change(&mut self, places: &Places) -> Vec<usize> {
-        let wanted = [1, 1, 1, 1, 2, 2, 3][self.random.below(7) as usize];
-        let mut made = Vec::new();
-        while made.len() < wanted {
-            let (kind, before) = (self.random.below(self.kinds.len() as u64) as usize, self.trial.changes());
-            let mut editor = Editor { trial: &mut self.trial, places, random: &mut self.random };
-            if (self.kinds[kind].make)(&mut editor).is_some() && self.trial.changes() > before {
-                made.push(kind);
-            }
-        }
-        made
+        changes::make(&mut Editor { trial: &mut self.trial, places, random: &mut self.random }, &self.kinds)
     }
 
     /// Compares our check with the model on the store as it is, and counts it.
@@ -142,6 +129,16 @@ impl<'a> Batch<'a> {
         let names = if made.is_empty() { "as built".to_string() } else { names.join("; ") };
         self.tally.differ(self.number, format!("{what} ({names}): {}", self.trial));
     }
+}
+
+/// The store from which a batch grows: tables and marks of zeros, and frames of garbage.
+pub fn fresh(number: u64, random: &mut Random) -> Store {
+    let (tables, frames) = sizes(number, random);
+    let mut store = Store::zeros(tables, frames);
+    for bytes in store.bytes.chunks_exact_mut(8) {
+        bytes.copy_from_slice(&random.uniform().to_le_bytes());
+    }
+    store
 }
 
 /// T and F of a batch: mostly small, now and then the largest.

@@ -64,9 +64,14 @@ impl Trial {
         }
     }
 
+    /// The twin, lent to be read.
+    pub fn lent(&self) -> Lent<'_> {
+        Lent::of(&self.twin)
+    }
+
     /// What our check says of the twin.
     pub fn check(&self) -> Reply {
-        check(&Lent::of(&self.twin))
+        check(&self.lent())
     }
 
     /// Whether the twin is still equal to the model's copy.

@@ -44,3 +44,16 @@ pub fn count() -> usize {
 pub fn all() -> impl Iterator<Item = &'static Kind> {
     KINDS.into_iter().flatten()
 }
+
+/// Makes one to three changes, each of one of these kinds, and names the kinds by their places.
+pub fn make(editor: &mut Editor, kinds: &[&Kind]) -> Vec<usize> {
+    let wanted = [1, 1, 1, 1, 2, 2, 3][editor.below(7)];
+    let mut made = Vec::new();
+    while made.len() < wanted {
+        let (kind, before) = (editor.below(kinds.len()), editor.trial.changes());
+        if (kinds[kind].make)(editor).is_some() && editor.trial.changes() > before {
+            made.push(kind);
+        }
+    }
+    made
+}

@@ -1,15 +1,19 @@
 //! The calls of document 01, one in each file. Each answers its value or the refusal's number,
 //! and each refusal comes before the first write.
 
+mod as_satp;
 mod free;
 mod map;
+mod pgt_translate;
 mod set_up;
 mod uvm_alloc;
 mod uvm_unmap;
 mod uvmcreate;
 
+pub use as_satp::as_satp;
 pub use free::free;
 pub use map::map;
+pub use pgt_translate::pgt_translate;
 pub use set_up::set_up;
 pub use uvm_alloc::uvm_alloc;
 pub use uvm_unmap::uvm_unmap;
