@@ -12,10 +12,9 @@ use Rattle.store.specs.Walk.{resolve}
 use Rattle.store.proofs.Tree.{tree-of, well-formed-of}
 use Rattle.walk.specs.Missing.{missing}
 use Rattle.walk.proofs.MissingLaws.{missing-none, missing-le}
-use Rattle.map.specs.Enter.{enterPages}
+use Rattle.map.specs.Enter.{enterPages, Plain}
 use Rattle.map.specs.Demand3.{Fit, Room, Entered, Demand3}
 use Rattle.map.proofs.Unmapped.{unmapped-exactly}
-use Rattle.map.proofs.EnterPage.{Plain}
 use Rattle.map.proofs.EnterPages.{Ready, PagesEntered, enter-pages}
 
 -- ---- the entries

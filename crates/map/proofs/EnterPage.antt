@@ -3,14 +3,13 @@ use mathlib.Core.Path.{_≡_, sym, ap, _∙_}
 use mathlib.Core.Logic.{⊎-elim, _↔_}
 use Prim.Native.Nat.{ℕ, zero, suc, _+_, _/_, _%_, _^_, _≤_, _<_}
 use native.Mathlib.Omega.{arith}
-use Rattle.store.specs.Store.{Store, Sized, mark, frameNo}
-use Rattle.store.specs.WellFormed.{Outside}
+use Rattle.store.specs.Store.{Store, Sized, mark}
 use Rattle.store.specs.Count.{isZero, freeTables}
 use Rattle.store.specs.Walk.{slotWord, slotIn, slot, entryAt}
 use Rattle.store.proofs.Tree.{LeafIn, TreeOf, top}
-use Rattle.store.proofs.Walk.{reach, top-of}
-use Rattle.map.specs.Enter.{stored, hang, enterPage}
-use Rattle.map.proofs.Step.{Step}
+use Rattle.store.proofs.Walk.{depth, reach, top-of}
+use Rattle.map.specs.Enter.{stored, hang, enterPage, Plain}
+use Rattle.map.proofs.Step.{Step, in-words}
 use Rattle.map.proofs.Hang.{hung}
 use Rattle.map.proofs.Write.{store-here, store-step}
 
@@ -19,12 +18,6 @@ unfoldable pub part : ℕ → ℕ → ℕ
 part zero p = p / 512 / 512
 part (suc zero) p = p / 512
 part (suc (suc d)) p = p
-
--- entries that need no mark of a frame: W4 allows them at level 0 wherever they stand
-pub record Plain (e : ℕ) : Type 0 where
-  pub valid : e % 2 ≡ 1
-  pub small : e < 2 ^ 54
-  pub outside : Outside (frameNo e)
 
 pub plain-leaf : (f : ℕ → ℕ) (m e : ℕ) → Plain e → LeafIn f m e
 plain-leaf f m e k = record {
@@ -125,3 +118,12 @@ module _ (s : Store) (z : Sized s) (w : TreeOf s) (r p e : ℕ) (rr : mark (s .t
 
   pub enter-page : PageEntered s (enterPage s r p e) r p e
   enter-page = rw write-slot entered
+
+  -- the level-1 table's slot for the page is one that a mark can hold
+  pub slot-fits : slot (slotWord (s₁ .words)) r 1 (p / 512) < 2 ^ 32
+  unfolding top entryAt
+  slot-fits =
+      let m : ℕ = slot (slotWord (s₁ .words)) r 1 (p / 512) in
+      let two : 2 ≤ m = reach (t₁ .0 .tree) r 0 (p / 512) rr₁ (omega arith) (omega arith) (t₁ .1) in
+      let d = depth (t₁ .0 .tree) r 1 (p / 512) rr₁ (omega arith) (omega arith) two in
+      omega (arith, in-words s₁ (t₁ .0 .sized) (t₁ .0 .tree) m two (omega (arith, d)), t₁ .0 .sized .words, t₁ .0 .sized .tables-to)

@@ -11,8 +11,8 @@ use Rattle.store.proofs.Tree.{TreeOf, top}
 use Rattle.walk.specs.Missing.{span, missing}
 use Rattle.walk.proofs.Spans.{span-one, span-step, span-has}
 use Rattle.walk.proofs.MissingLaws.{missing-none, missing-is}
-use Rattle.map.specs.Enter.{enterPage, enterPages}
-use Rattle.map.proofs.EnterPage.{part, Plain, lacks, PageEntered, enter-page}
+use Rattle.map.specs.Enter.{enterPage, enterPages, Plain}
+use Rattle.map.proofs.EnterPage.{part, lacks, PageEntered, enter-page}
 
 -- ---- what is missing before the first page is entered, and after
 
@@ -98,7 +98,7 @@ then s s₁ s₂ r p n e rr h a b = record {
     here zero l = ap (resolve s₂ r) (add-zero p) ∙ b .rest r p (a .roots r .0 rr) (omega arith) (λ _ u v. omega arith) ∙ a .here ∙ (omega arith)
     here (suc i) l = ap (resolve s₂ r) (add-suc p i ∙ sym (suc-add p i)) ∙ b .here i (omega arith) ∙ (omega arith)
 
-first : (n : ℕ) (s : Store) (r p e : ℕ) → Ready (suc n) s r p e → lacks s r p ≤ freeTables s
+pub first : (n : ℕ) (s : Store) (r p e : ℕ) → Ready (suc n) s r p e → lacks s r p ≤ freeTables s
     → PageEntered s (enterPage s r p e) r p e × Ready n (enterPage s r p e) r (suc p) (e + 1024)
 unfolding top part
 first n s r p e c f =

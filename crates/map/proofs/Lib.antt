@@ -1,6 +1,7 @@
 -- The laws of `map`: its reasons, what entering pages does, and demand 3.
 pub mod NumberLaws
 pub mod ReasonLaws
+pub mod Slots
 pub mod Updates
 pub mod Tables
 pub mod Leaves

@@ -1,10 +1,13 @@
 -- What entering pages makes of a store, page by page: the tables that are hung and the words that are written.
-use mathlib.Core.List.{List}
-use Prim.Native.Nat.{ℕ, zero, suc, _+_, _*_, _/_, _%_}
-use lib.ListN.{set}
-use Rattle.store.specs.Store.{Store, pointerTo}
-use Rattle.store.specs.Count.{lowest}
-use Rattle.store.specs.Walk.{slotWord, slotIn}
+use mathlib.Core.Path.{_≡_}
+use mathlib.Core.List.{List, []}
+use Prim.Native.Nat.{ℕ, zero, suc, _+_, _*_, _/_, _%_, _^_, _≤_, _<_}
+use lib.ListN.{length, set}
+use Rattle.store.specs.Store.{Store, storeOf, Sized, mark, pointerTo, frameNo}
+use Rattle.store.specs.WellFormed.{Outside, WellFormed}
+use Rattle.store.specs.Count.{lowest, freeTables}
+use Rattle.store.specs.Walk.{slotWord, slotIn, resolve}
+use Rattle.walk.specs.Missing.{missing}
 
 -- the words with v in slot m, which is word m - 2; slots 0 and 1 are no words
 abbrev pub putSlot : List ℕ → ℕ → ℕ → List ℕ
@@ -42,3 +45,30 @@ enterPage s r p e =
 unfoldable pub enterPages : Store → ℕ → ℕ → ℕ → ℕ → Store
 enterPages s r p zero e = s
 enterPages s r p (suc n) e = enterPages (enterPage s r p e) r (suc p) n (e + 1024)
+
+-- an entry that W4 allows at level 0 wherever it stands: V, bits 54 to 63 clear, and a frame outside the held window
+pub record Plain (e : ℕ) : Type 0 where
+  pub valid : e % 2 ≡ 1
+  pub small : e < 2 ^ 54
+  pub outside : Outside (frameNo e)
+
+-- what entering those pages needs
+pub record CanEnter (s : Store) (r p n e : ℕ) : Type 0 where
+  pub sized : Sized s
+  pub formed : WellFormed s
+  pub is-root : mark (s .tmarks) r ≡ 1
+  pub pages : (i : ℕ) → i < n → p + i < 2 ^ 26
+  pub unmapped : (i : ℕ) → i < n → resolve s r (p + i) ≡ 0
+  pub plain : (i : ℕ) → i < n → Plain (e + 1024 * i)
+  pub tables : missing s r p n ≤ freeTables s
+
+-- words ws and table marks ms have become ws′ and ms′ as f makes them of a store, whatever its frames are
+abbrev pub Becomes : List ℕ → List ℕ → (Store → Store) → List ℕ → List ℕ → Type 0
+Becomes ws ms f ws′ ms′ = (bs fs : List ℕ) → storeOf ws′ ms′ bs fs ≡ f (storeOf ws ms bs fs)
+
+-- what entering one page asks of words and marks: numbers in range, and a slot in the level-1 table that a mark can hold
+pub record Enterable (ws ms : List ℕ) (r p : ℕ) : Type 0 where
+  pub tables : length ms ≤ 512
+  pub is-root : r < 512
+  pub page : p < 2 ^ 26
+  pub fits : slotIn (slotWord (hang (storeOf ws ms [] []) (512 * r + p / 512 / 512 + 2) .words) (512 * r + p / 512 / 512 + 2)) (p / 512 % 512) < 2 ^ 32

@@ -1,4 +1,3 @@
 // Mapping a range of pages, after `map` of page_table.rs: judged whole before the first write.
+mod enter;
 mod judge;
-
-pub use judge::judge_map;

@@ -54,3 +54,9 @@ zeros-le g (suc n) c = omega (arith, zeros-le g n (suc c), isZero-le (g c))
 pub free-le : (ms : List ℕ) → free ms ≤ length ms
 unfolding free
 free-le ms = zeros-le (mark ms) (length ms) 0
+
+-- the lowest free mark is one of the marks, or their number
+pub lowest-le : (ms : List ℕ) → lowest ms ≤ length ms
+lowest-le [] = omega arith
+lowest-le (zero ∷ l) = omega arith
+lowest-le (suc x ∷ l) = omega (arith, lowest-le l)

@@ -8,6 +8,7 @@ mod translate;
 
 pub use missing::missing_tables;
 pub use ranges::any_mapped;
+pub use steps::slot_in;
 pub use steps::slot_of;
 pub use steps::slot_word;
 pub use translate::as_satp;
