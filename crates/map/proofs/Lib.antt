@@ -12,6 +12,7 @@ pub mod Write
 pub mod Lengths
 pub mod EnterPage
 pub mod EnterPages
+pub mod Going
 pub mod Unmapped
 pub mod Demand3
 pub mod ReadyLaws

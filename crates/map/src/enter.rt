@@ -53,3 +53,25 @@ fn enter_page(words: &mut [u64], tmarks: &mut [u32], root: usize, page: usize, e
     let last = walk::slot_in(walk::slot_word(words, middle), page % 512);
     put_slot(words, last, e);
 }
+
+// n pages from first on get the entries e, e + 1024, .. The frames are lent so that the promise can speak of the whole store.
+pub fn enter_pages(
+    words: &mut [u64],
+    tmarks: &mut [u32],
+    bytes: &[u8],
+    fmarks: &[u32],
+    root: usize,
+    first: usize,
+    n: usize,
+    e: u64,
+)
+    requires { ⌜ CanEnter (storeOf (now words) (now tmarks) (now bytes) (now fmarks)) root first n e ⌝ }
+    ensures { λ _. ⌜ storeOf (now (words .exit)) (now (tmarks .exit)) (now (bytes .entry)) (now (fmarks .entry))
+        ≡ enterPages (storeOf (now (words .entry)) (now (tmarks .entry)) (now (bytes .entry)) (now (fmarks .entry))) root first n e ⌝ }
+{
+    let mut i = 0;
+    while i < n {
+        enter_page(words, tmarks, root, first + i, e + 1024 * (i as u64));
+        i += 1;
+    }
+}
