@@ -13,6 +13,7 @@ pub mod Lengths
 pub mod EnterPage
 pub mod EnterPages
 pub mod Going
+pub mod MapLaws
 pub mod Unmapped
 pub mod Demand3
 pub mod ReadyLaws
