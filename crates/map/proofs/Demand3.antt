@@ -1,89 +1,56 @@
--- Demand 3 holds of `enterPages`. Assumes nothing.
-use mathlib.Core.Path.{_≡_, sym, ap, _∙_, subst}
-use mathlib.Core.Logic.{inl, inr, by-cases}
-use Prim.Native.Nat.{ℕ, _+_, _*_, _/_, _^_, _≤_, _<_}
+-- Demand 3 holds of `map`. Assumes nothing.
+use mathlib.Core.Path.{_≡_, refl, sym, ap, _∙_, subst}
+use mathlib.Core.Logic.{⊎-elim, by-cases}
+use Prim.Native.Nat.{ℕ, _+_, _-_, _/_, _^_, _≤_, _<_}
 use native.Mathlib.Decide.{decLt}
 use native.Mathlib.Omega.{arith}
-use Rattle.page_table_entry.specs.Layout.{frameNumber}
-use Rattle.page_table_entry.specs.Built.{entryOf}
-use Rattle.store.specs.Store.{Store, frameNo}
-use Rattle.store.specs.WellFormed.{Outside}
-use Rattle.store.specs.Walk.{resolve}
-use Rattle.store.proofs.Tree.{tree-of, well-formed-of}
+use Rattle.rounding.specs.Range.{firstPage, endPage}
+use Rattle.store.specs.Store.{Store}
+use Rattle.store.specs.Count.{freeTables}
+use Rattle.store.specs.Outcome.{NoReason}
+use Rattle.walk.specs.Mapped.{Mapped}
 use Rattle.walk.specs.Missing.{missing}
-use Rattle.walk.proofs.MissingLaws.{missing-none, missing-le}
-use Rattle.map.specs.Enter.{enterPages, Plain}
+use Rattle.map.specs.Numbers.{pagesOf, InWindow}
+use Rattle.map.specs.Reasons.{MapReason, MapReady, taken, too-few}
 use Rattle.map.specs.Demand3.{Fit, Room, Entered, Demand3}
-use Rattle.map.proofs.Unmapped.{unmapped-exactly}
-use Rattle.map.proofs.EnterPages.{Ready, PagesEntered, enter-pages}
+use Rattle.map.proofs.ReasonLaws.{clear}
+use Rattle.map.proofs.ReadyLaws.{ready-entered}
 
--- ---- the entries
+module _ (s : Store) (root va pa size perm : ℕ) where
+  abbrev n : ℕ
+  n = pagesOf va size
 
--- entry i names frame i, and has the same permissions
-pub entry-next : (frame q i : ℕ) → entryOf (4096 * frame) q + 1024 * i ≡ entryOf (4096 * (frame + i)) q
-entry-next frame q i = omega arith
-
--- an unaligned address is rounded down
-pub entry-rounded : (pa q : ℕ) → entryOf pa q ≡ entryOf (4096 * (pa / 4096)) q
-entry-rounded pa q = omega arith
-
-entry-frame : (frame q : ℕ) → q ≤ 1023 → frameNo (entryOf (4096 * frame) q) ≡ frame
-entry-frame frame q h = omega arith
-
-number-of : (e frame : ℕ) → frameNo e ≡ frame → frame < 2 ^ 44 → frameNumber e ≡ frame
-number-of e frame f l = omega arith
-
--- frames below 2 ^ 44 outside the held window have entries that W4 allows in every slot of level 0
-pub entry-plain : (frame q : ℕ) → q ≤ 1023 → frame < 2 ^ 44 → Outside frame → Plain (entryOf (4096 * frame) q)
-entry-plain frame q h l o = record { valid = omega arith; small = omega arith; outside = rw (entry-frame frame q h) o }
-
--- a frame that is not in the held window is outside
-pub outside-of : (frame : ℕ) → (0x10_0000 ≤ frame → frame < 0x12_0000 → ⊥) → Outside frame
-outside-of frame h = by-cases (decLt frame 0x10_0000) (λ l. inl l) (λ n. by-cases (decLt frame 0x12_0000) (λ l. absurd (h (omega arith) l)) (λ m. inr (omega arith)))
-
--- ---- the pages
-
-module _ (s : Store) (r p n frame q : ℕ) (fit : Fit s r p n frame q) (room : Room s r p n) where
-  abbrev s′ : Store
-  s′ = enterPages s r p n (entryOf (4096 * frame) q)
-
-  pub ready : Ready n s r p (entryOf (4096 * frame) q)
-  ready = record {
-    sized = fit .sized;
-    tree = tree-of s (fit .sized) (fit .well-formed);
-    root = fit .root;
-    range = fit .pages;
-    unmapped = λ i l. unmapped-exactly s (fit .sized) (fit .well-formed) r (fit .root) (p + i) (fit .pages i l) .0 (room .unmapped i l);
-    plain = λ i l. subst Plain (sym (entry-next frame q i)) (entry-plain (frame + i) q (fit .permissions) (fit .frames i l) (fit .outside i l));
+  -- what the refusals 14 and 17 deny
+  room-of : NoReason (MapReason s root va pa size perm) → Room s root (firstPage va) n
+  room-of o = record {
+    unmapped = λ i l m. o 14 (taken (firstPage va + i) (omega arith) (omega arith) m);
+    tables = by-cases (decLt (freeTables s) (missing s root (firstPage va) n)) (λ l. absurd (o 17 (too-few l))) (λ g. omega arith);
   }
 
-  pages : PagesEntered s s′ r p n (entryOf (4096 * frame) q)
-  pages = enter-pages n s r p (entryOf (4096 * frame) q) ready (room .tables)
+  module _ (fit : Fit s root (firstPage va) n (pa / 4096) perm) where
+    -- a size above 2 ^ 38 has pages above it
+    short : size ≤ 2 ^ 38
+    short = by-cases (decLt (2 ^ 38) size) (λ l. absurd (omega (arith, fit .pages (n - 1) (omega arith)))) (λ g. omega arith)
 
-  word : (i : ℕ) → i < n → resolve s′ r (p + i) ≡ entryOf (4096 * (frame + i)) q
-  word i l = pages .here i l ∙ entry-next frame q i
+    ready : Room s root (firstPage va) n → MapReady s root va pa size perm
+    ready room = record {
+      sized = fit .sized;
+      formed = fit .well-formed;
+      is-root = fit .root;
+      numbers = record {
+        length = short;
+        pages = λ l. omega (arith, fit .pages (n - 1) (omega arith));
+        perms = fit .permissions;
+        frames = fit .frames;
+        outside = λ i l w. ⊎-elim (λ b. omega (arith, w .from)) (λ b. omega (arith, w .upto)) (fit .outside i l);
+      };
+      unmapped = λ p f t m. let e : p ≡ firstPage va + (p - firstPage va) = omega arith in room .unmapped (p - firstPage va) (omega arith) (subst (Mapped s root) e m);
+      enough = room .tables;
+    }
 
-  pub entered : Entered s r p n frame q s′
-  entered = record {
-    sized = pages .sized;
-    well-formed = well-formed-of s′ (pages .sized) (pages .tree);
-    mapped = λ i l. rw (word i l) (omega arith);
-    framed = λ i l. number-of (resolve s′ r (p + i)) (frame + i) (ap frameNo (word i l) ∙ entry-frame (frame + i) q (fit .permissions)) (fit .frames i l);
-    permitted = λ i l. rw (word i l) (omega (arith, fit .permissions));
-    whole = word;
-    others = pages .rest;
-    roots = pages .roots;
-    bytes = pages .bytes;
-    fmarks = pages .fmarks;
-    taken = pages .free;
-    none = λ e. ap (missing s r p) e ∙ missing-none s r p;
-    bound = missing-le s r p n;
-  }
-
-pub demand-3 : (s : Store) (r p n frame q : ℕ) → Demand3 s r p n frame q
-demand-3 s r p n frame q = entered s r p n frame q
-
--- the same for an address of the first frame, aligned or not
-pub demand-3-at : (s : Store) (r p n pa q : ℕ) → Fit s r p n (pa / 4096) q → Room s r p n → Entered s r p n (pa / 4096) q (enterPages s r p n (entryOf pa q))
-demand-3-at s r p n pa q fit room =
-    subst (λ (e : ℕ). Entered s r p n (pa / 4096) q (enterPages s r p n e)) (sym (entry-rounded pa q)) (entered s r p n (pa / 4096) q fit room)
+    pub demand-3 : Demand3 s root va pa size perm
+    demand-3 = record {
+      exactly = (λ d. room-of (d .2 .0), λ room. (_, _, (clear s root va pa size perm (ready room), (refl, refl))));
+      entered = λ v s′ d. subst (Entered s root (firstPage va) n (pa / 4096) perm) (sym (d .1 .1)) (ready-entered s root va pa size perm (ready (room-of (d .0))));
+      answer = λ v s′ d. d .1 .0;
+    }

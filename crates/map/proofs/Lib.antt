@@ -13,7 +13,8 @@ pub mod Lengths
 pub mod EnterPage
 pub mod EnterPages
 pub mod Going
-pub mod MapLaws
 pub mod Unmapped
-pub mod Demand3
+pub mod Entered
 pub mod ReadyLaws
+pub mod Demand3
+pub mod MapLaws

@@ -22,7 +22,7 @@ use Rattle.map.specs.Reasons.{MapReason, MapReady, taken, too-few}
 use Rattle.map.specs.Enter.{enterPages, CanEnter}
 use Rattle.map.specs.Map.{MapDone, Map}
 use Rattle.map.specs.Demand3.{Fit, Room, Entered}
-use Rattle.map.proofs.Demand3.{ready, entry-rounded}
+use Rattle.map.proofs.Entered.{ready, entry-rounded}
 use Rattle.map.proofs.ReadyLaws.{fit, room, ready-entered}
 use Rattle.map.proofs.ReasonLaws.{clear}
 

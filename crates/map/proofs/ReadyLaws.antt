@@ -8,7 +8,7 @@ use Rattle.map.specs.Numbers.{pagesOf}
 use Rattle.map.specs.Reasons.{MapReady}
 use Rattle.map.specs.Enter.{enterPages}
 use Rattle.map.specs.Demand3.{Fit, Room, Entered}
-use Rattle.map.proofs.Demand3.{outside-of, demand-3-at}
+use Rattle.map.proofs.Entered.{outside-of, entered-at}
 
 module _ (s : Store) (root va pa size perm : ℕ) (ready : MapReady s root va pa size perm) where
   pub fit : Fit s root (firstPage va) (pagesOf va size) (pa / 4096) perm
@@ -29,4 +29,4 @@ module _ (s : Store) (root va pa size perm : ℕ) (ready : MapReady s root va pa
   }
 
   pub ready-entered : Entered s root (firstPage va) (pagesOf va size) (pa / 4096) perm (enterPages s root (firstPage va) (pagesOf va size) (entryOf pa perm))
-  ready-entered = demand-3-at s root (firstPage va) (pagesOf va size) pa perm fit room
+  ready-entered = entered-at s root (firstPage va) (pagesOf va size) pa perm fit room

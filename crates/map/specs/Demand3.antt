@@ -1,17 +1,20 @@
--- Demand 3: what entering pages asks for, and what holds of the store afterwards.
+-- Demand 3: when `map` succeeds, and what holds of the store afterwards.
 use mathlib.Core.Path.{_≡_}
 use mathlib.Core.Logic.{_↔_}
 use Prim.Native.Nat.{ℕ, _+_, _*_, _/_, _^_, _≤_, _<_}
 use Rattle.page_table_entry.specs.Layout.{bitV, flags, frameNumber}
 use Rattle.page_table_entry.specs.Change.{withBit}
 use Rattle.page_table_entry.specs.Built.{entryOf}
+use Rattle.rounding.specs.Range.{firstPage}
 use Rattle.store.specs.Store.{Store, Sized, mark}
 use Rattle.store.specs.WellFormed.{Outside, WellFormed}
 use Rattle.store.specs.Count.{freeTables}
 use Rattle.store.specs.Walk.{resolve}
+use Rattle.store.specs.declared.Answer.the-variants.{Done}
 use Rattle.walk.specs.Mapped.{Mapped}
 use Rattle.walk.specs.Missing.{missing}
-use Rattle.map.specs.Enter.{enterPages}
+use Rattle.map.specs.Numbers.{pagesOf}
+use Rattle.map.specs.Map.{Map}
 
 -- Pages p .. p + n - 1 of root r are to be mapped to the frames from number `frame` on, with permissions q.
 
@@ -53,5 +56,10 @@ pub record Entered (s : Store) (r p n frame q : ℕ) (s′ : Store) : Type 0 whe
   pub none : n ≡ 0 → missing s r p n ≡ 0
   pub bound : 0 < n → missing s r p n ≤ (n + 510) / 512 + (n + 262142) / 262144 + 2
 
-abbrev pub Demand3 : Store → ℕ → ℕ → ℕ → ℕ → ℕ → Type 0
-Demand3 s r p n frame q = Fit s r p n frame q → Room s r p n → Entered s r p n frame q (enterPages s r p n (entryOf (4096 * frame) q))
+-- Of a call that meets none of the refusals 1 to 10.
+pub record Demand3 (s : Store) (root va pa size perm : ℕ) : Type 0 where
+  -- it succeeds exactly when no page of the range is mapped and the missing tables are no more than the free ones
+  pub exactly : ((v : ℕ) × (s′ : Store) × Map s root va pa size perm (Done v) s′) ↔ Room s root (firstPage va) (pagesOf va size)
+  -- then the pages are mapped, and the answer is the number of tables taken
+  pub entered : (v : ℕ) (s′ : Store) → Map s root va pa size perm (Done v) s′ → Entered s root (firstPage va) (pagesOf va size) (pa / 4096) perm s′
+  pub answer : (v : ℕ) (s′ : Store) → Map s root va pa size perm (Done v) s′ → v ≡ missing s root (firstPage va) (pagesOf va size)
