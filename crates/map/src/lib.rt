@@ -1,5 +1,6 @@
 // Mapping a range of pages, after `map` of page_table.rs: judged whole before the first write.
 mod enter;
+mod exports;
 mod judge;
 mod mapping;
 
