@@ -142,6 +142,11 @@ ronakvesh_reply ronakvesh_as_satp(const uint64_t *words, size_t word_count, cons
                                   const uint8_t *bytes, size_t byte_count, const uint32_t *frame_marks, size_t frames,
                                   uint64_t root);
 
+/* libmap.a: makes the lowest free table a root without pages; the value is its number. 1, 2, 17. */
+ronakvesh_reply ronakvesh_uvmcreate(const uint64_t *words, size_t word_count, uint32_t *table_marks, size_t tables,
+                                    const uint8_t *bytes, size_t byte_count, const uint32_t *frame_marks,
+                                    size_t frames);
+
 /* libmap.a: maps the pages that size bytes from va on lie in to the frames from pa on, with perm and V, in a root; the value is
  * how many tables it took. 1, 2, 3, 6, 8, 9, 10, 14, 17, and then nothing is written. */
 ronakvesh_reply ronakvesh_map(uint64_t *words, size_t word_count, uint32_t *table_marks, size_t tables,

@@ -1,4 +1,4 @@
--- The laws of `map`: its reasons, what entering pages does, and demand 3.
+-- The laws of `uvmcreate` and `map`: their reasons, what entering pages does, and demand 3.
 pub mod NumberLaws
 pub mod ReasonLaws
 pub mod Slots
@@ -9,6 +9,7 @@ pub mod Walks
 pub mod Step
 pub mod Hang
 pub mod Write
+pub mod CreateLaws
 pub mod Lengths
 pub mod EnterPage
 pub mod EnterPages

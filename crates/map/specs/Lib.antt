@@ -1,4 +1,5 @@
--- What the contract of `map` cites.
+-- What the contracts of `uvmcreate` and `map` cite.
+pub mod Create
 pub mod Numbers
 pub mod Reasons
 pub mod Enter

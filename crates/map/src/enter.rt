@@ -20,7 +20,7 @@ fn put_slot(words: &mut [u64], m: usize, v: u64)
 }
 
 // Mark m goes to table t, where there is one.
-fn put_mark(tmarks: &mut [u32], t: usize, m: u32)
+pub fn put_mark(tmarks: &mut [u32], t: usize, m: u32)
     ensures { λ _. ⌜ now (tmarks .exit) ≡ set (now (tmarks .entry)) t m ⌝ }
 {
     if t < tmarks.len() {
