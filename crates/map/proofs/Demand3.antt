@@ -1,16 +1,16 @@
 -- Demand 3 holds of `map`. Assumes nothing.
-use mathlib.Core.Path.{_≡_, refl, sym, ap, _∙_, subst}
+use mathlib.Core.Path.{_≡_, refl, sym, subst}
 use mathlib.Core.Logic.{⊎-elim, by-cases}
-use Prim.Native.Nat.{ℕ, _+_, _-_, _/_, _^_, _≤_, _<_}
+use Prim.Native.Nat.{ℕ, _+_, _-_, _/_, _^_, _≤_}
 use native.Mathlib.Decide.{decLt}
 use native.Mathlib.Omega.{arith}
-use Rattle.rounding.specs.Range.{firstPage, endPage}
+use Rattle.rounding.specs.Range.{firstPage}
 use Rattle.store.specs.Store.{Store}
 use Rattle.store.specs.Count.{freeTables}
 use Rattle.store.specs.Outcome.{NoReason}
 use Rattle.walk.specs.Mapped.{Mapped}
 use Rattle.walk.specs.Missing.{missing}
-use Rattle.map.specs.Numbers.{pagesOf, InWindow}
+use Rattle.map.specs.Numbers.{pagesOf}
 use Rattle.map.specs.Reasons.{MapReason, MapReady, taken, too-few}
 use Rattle.map.specs.Demand3.{Fit, Room, Entered, Demand3}
 use Rattle.map.proofs.ReasonLaws.{clear}

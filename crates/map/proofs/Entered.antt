@@ -12,9 +12,9 @@ use Rattle.store.specs.Walk.{resolve}
 use Rattle.store.proofs.Tree.{tree-of, well-formed-of}
 use Rattle.walk.specs.Missing.{missing}
 use Rattle.walk.proofs.MissingLaws.{missing-none, missing-le}
+use Rattle.walk.proofs.Pages.{mapped-word}
 use Rattle.map.specs.Enter.{enterPages, Plain}
 use Rattle.map.specs.Demand3.{Fit, Room, Entered}
-use Rattle.map.proofs.Unmapped.{unmapped-exactly}
 use Rattle.map.proofs.EnterPages.{Ready, PagesEntered, enter-pages}
 
 -- ---- the entries
@@ -53,7 +53,8 @@ module _ (s : Store) (r p n frame q : ℕ) (fit : Fit s r p n frame q) (room : R
     tree = tree-of s (fit .sized) (fit .well-formed);
     root = fit .root;
     range = fit .pages;
-    unmapped = λ i l. unmapped-exactly s (fit .sized) (fit .well-formed) r (fit .root) (p + i) (fit .pages i l) .0 (room .unmapped i l);
+    unmapped = λ i l.
+        by-cases (decLt 0 (resolve s r (p + i))) (λ q. absurd (room .unmapped i l (mapped-word s (fit .sized) (fit .well-formed) r (fit .root) (p + i) (fit .pages i l) (λ e. omega arith)))) (λ n. omega arith);
     plain = λ i l. subst Plain (sym (entry-next frame q i)) (entry-plain (frame + i) q (fit .permissions) (fit .frames i l) (fit .outside i l));
   }
 

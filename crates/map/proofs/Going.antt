@@ -1,17 +1,15 @@
 -- The loop that enters pages: what holds before each page, at the start and at the end. Assumes nothing.
 use mathlib.Core.Path.{_≡_, refl, sym, ap, ap₂, _∙_, subst}
 use mathlib.Core.List.{List, []}
-use Prim.Native.Nat.{ℕ, zero, suc, _+_, _-_, _*_, _/_, _%_, _^_, _≤_, _<_}
-use native.Mathlib.Nat.{add-zero, suc-add, add-suc}
+use Prim.Native.Nat.{ℕ, zero, suc, _+_, _-_, _*_, _/_, _^_, _≤_, _<_}
 use native.Mathlib.Omega.{arith}
-use lib.ListN.{length}
-use Rattle.store.specs.Store.{Store, storeOf, Sized, mark}
+use Rattle.store.specs.Store.{Store, storeOf}
 use Rattle.store.specs.Count.{lowest, freeTables}
-use Rattle.store.specs.Walk.{slotWord, slotIn, slot, resolve}
+use Rattle.store.specs.Walk.{slotWord, slot, resolve}
 use Rattle.store.proofs.Tree.{tree-of}
 use Rattle.walk.specs.Missing.{missing}
 use Rattle.walk.proofs.Calls.{root-in}
-use Rattle.map.specs.Enter.{ifZero, linked, hang, enterPage, enterPages, Plain, CanEnter, Becomes, Enterable}
+use Rattle.map.specs.Enter.{ifZero, linked, hang, enterPage, enterPages, Plain, CanEnter, Enterable}
 use Rattle.map.proofs.EnterPage.{lacks, slot-fits}
 use Rattle.map.proofs.EnterPages.{Ready, first, missing-first, missing-step}
 

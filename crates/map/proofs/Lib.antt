@@ -10,11 +10,9 @@ pub mod Step
 pub mod Hang
 pub mod Write
 pub mod CreateLaws
-pub mod Lengths
 pub mod EnterPage
 pub mod EnterPages
 pub mod Going
-pub mod Unmapped
 pub mod Entered
 pub mod ReadyLaws
 pub mod Demand3

@@ -1,15 +1,13 @@
 -- What each way out of `map` says, that two answers to one call are the same, and demand 3 of the call. Assumes nothing.
 use mathlib.Core.Path.{_≡_, refl, sym, ap, ap₂, _∙_, subst}
-use mathlib.Core.Logic.{_↔_}
-use Prim.Native.Nat.{ℕ, _+_, _-_, _*_, _/_, _^_, _≤_, _<_}
+use Prim.Native.Nat.{ℕ, _-_, _*_, _/_, _^_, _≤_, _<_}
 use native.Mathlib.Omega.{arith}
 use Rattle.address.specs.Answer.{Said, answered, refused}
 use Rattle.address.proofs.Answers.{value, clash}
-use Rattle.page_table_entry.specs.Built.{entryOf, written, Written}
+use Rattle.page_table_entry.specs.Built.{entryOf, Written}
 use Rattle.page_table_entry.proofs.Built.{entry}
 use Rattle.rounding.specs.Range.{firstPage, endPage}
 use Rattle.store.specs.Store.{Store}
-use Rattle.store.specs.Count.{freeTables}
 use Rattle.store.specs.Outcome.{Judges}
 use Rattle.store.specs.declared.Answer.{Answer}
 use Rattle.store.specs.declared.Answer.the-variants.{Refused, Done}
@@ -18,12 +16,11 @@ use Rattle.walk.specs.Missing.{missingIn, missing}
 use Rattle.walk.proofs.Calls.{root-in}
 use Rattle.walk.proofs.MissingLaws.{missing-in, missing-none}
 use Rattle.map.specs.Numbers.{pagesOf}
-use Rattle.map.specs.Reasons.{MapReason, MapReady, taken, too-few}
+use Rattle.map.specs.Reasons.{MapReason, MapReady}
 use Rattle.map.specs.Enter.{enterPages, CanEnter}
 use Rattle.map.specs.Map.{MapDone, Map}
-use Rattle.map.specs.Demand3.{Fit, Room, Entered}
 use Rattle.map.proofs.Entered.{ready, entry-rounded}
-use Rattle.map.proofs.ReadyLaws.{fit, room, ready-entered}
+use Rattle.map.proofs.ReadyLaws.{fit, room}
 use Rattle.map.proofs.ReasonLaws.{clear}
 
 module _ (s : Store) (root va pa size perm : ℕ) where

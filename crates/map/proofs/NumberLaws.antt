@@ -1,11 +1,11 @@
 -- What each way out of the judge of the numbers says. Assumes nothing.
 use mathlib.Core.Path.{_≡_, refl}
 use mathlib.Core.Logic.{by-cases}
-use Prim.Native.Nat.{ℕ, suc, _+_, _-_, _/_, _^_, _≤_, _<_}
+use Prim.Native.Nat.{ℕ, _+_, _-_, _/_, _^_, _≤_, _<_}
 use native.Mathlib.Decide.{decLt}
 use native.Mathlib.Omega.{arith}
 use Rattle.rounding.specs.Range.{firstPage, endPage}
-use Rattle.store.specs.Outcome.{Smallest, Judges}
+use Rattle.store.specs.Outcome.{Judges}
 use Rattle.store.proofs.Outcomes.{judges-no, judges-ok}
 use Rattle.map.specs.Numbers.{pagesOf, frameAt, InWindow, NumberReason, too-long, too-high, permissions, frame-high, held, NumbersReady}
 

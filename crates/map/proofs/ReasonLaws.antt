@@ -1,19 +1,18 @@
 -- The reasons of `map` in order, and what each way out of its judge says. Assumes nothing.
 use mathlib.Core.Path.{_≡_, refl, sym, ap, _∙_}
-use Prim.Native.Nat.{ℕ, suc, _+_, _-_, _^_, _≤_, _<_}
+use Prim.Native.Nat.{ℕ, suc, _-_, _^_, _≤_, _<_}
 use native.Mathlib.Nat.{le-refl}
 use native.Mathlib.Omega.{arith}
 use Rattle.rounding.specs.Range.{firstPage, endPage}
 use Rattle.store.specs.Store.{Store, Sized, mark}
 use Rattle.store.specs.Count.{free, freeTables}
 use Rattle.store.specs.WellFormed.{WellFormed}
-use Rattle.store.specs.Walk.{resolve}
-use Rattle.store.specs.Outcome.{Smallest, NoReason, Judges}
+use Rattle.store.specs.Outcome.{NoReason, Judges}
 use Rattle.store.proofs.Outcomes.{judges-no, judges-ok}
 use Rattle.well_formed.specs.Check.{Judged}
 use Rattle.well_formed.proofs.Verdict.{judged-no}
 use Rattle.walk.specs.Mapped.{Mapped}
-use Rattle.walk.specs.Missing.{entryIn, missingIn, missing}
+use Rattle.walk.specs.Missing.{missingIn, missing}
 use Rattle.walk.specs.Ranges.{SomePage}
 use Rattle.walk.proofs.MissingLaws.{entry-in, missing-in, missing-none}
 use Rattle.walk.proofs.Pages.{mapped-word, word-mapped}

@@ -1,5 +1,4 @@
 -- What the numbers of a call of `map` may be: its pages, its frames and its permissions.
-use mathlib.Core.Logic.{_⊎_}
 use Prim.Native.Nat.{ℕ, _+_, _-_, _/_, _^_, _≤_, _<_}
 use Rattle.rounding.specs.Range.{firstPage, endPage}
 

@@ -1,7 +1,5 @@
 -- The samples hold, by computing. Assumes nothing.
 use mathlib.Core.Path.{refl}
-use Prim.Native.Nat.{ℕ}
-use Rattle.rounding.specs.Range.{Covers}
 use Rattle.page_table_entry.specs.Built.{written}
 use Rattle.store.specs.Count.{zeros}
 use Rattle.store.specs.Walk.{slotWord, slot}

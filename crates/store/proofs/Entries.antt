@@ -1,7 +1,7 @@
 -- The words of the store are entries: a pointer is the entry of its table's address without permissions, and an entry of a pool
 -- frame's address names that frame. Assumes nothing.
 use mathlib.Core.Path.{_≡_}
-use Prim.Native.Nat.{ℕ, _+_, _*_, _<_, _≤_}
+use Prim.Native.Nat.{ℕ, _+_, _*_, _≤_}
 use native.Mathlib.Omega.{arith}
 use Rattle.page_table_entry.specs.Built.{entryOf}
 use Rattle.store.specs.Store.{pointerTo, frameNo, poolNo}

@@ -1,11 +1,10 @@
 -- Set-up: its reason, what it leaves, and that it answers in one way. Assumes nothing.
 use mathlib.Core.Path.{_≡_, refl, sym, _∙_}
 use mathlib.Core.Logic.{inl}
-use mathlib.Core.List.{List}
 use Prim.Native.Nat.{ℕ, zero, suc, _<_}
 use native.Mathlib.Omega.{arith}
 use lib.ListN.{length, getD, replicate}
-use Rattle.store.specs.Store.{Store, Sized, word, mark}
+use Rattle.store.specs.Store.{Store, Sized}
 use Rattle.store.specs.WellFormed.{WellFormed}
 use Rattle.store.specs.Outcome.{Smallest, NoReason}
 use Rattle.store.specs.SetUp.{SetUpReason, sizes, fresh, SetUpDone, SetUp}

@@ -1,11 +1,9 @@
 -- What a call that names a root and a page learns on its way. Assumes nothing.
 use mathlib.Core.Path.{_≡_, sym, ap, _∙_}
 use mathlib.Core.Bool.{Bool, true, false, not}
-use mathlib.Core.List.{List}
 use Prim.Native.Nat.{ℕ, _<_}
 use native.Mathlib.Omega.{arith}
 use borrow.Author.Tests.{eqb-true, eqb-false, not-true, not-false}
-use lib.ListN.{length}
 use Rattle.address.specs.Field.{bit}
 use Rattle.page_table_entry.specs.Layout.{has}
 use Rattle.store.specs.Store.{Store, Sized, mark}

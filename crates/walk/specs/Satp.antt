@@ -1,6 +1,6 @@
 -- `as_satp`: the number that the satp register takes for a root. It changes nothing.
 use mathlib.Core.Path.{_≡_}
-use Prim.Native.Nat.{ℕ, _+_}
+use Prim.Native.Nat.{ℕ}
 use Rattle.address.specs.declared.Reply.{Reply}
 use Rattle.store.specs.Store.{Store, Sized, mark}
 use Rattle.store.specs.WellFormed.{WellFormed}

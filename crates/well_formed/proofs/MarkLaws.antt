@@ -1,13 +1,13 @@
 -- What each way out of the tests of one pointer, one table and one frame says. Assumes nothing.
 use mathlib.Core.Path.{_≡_, sym, subst, ap, _∙_}
-use mathlib.Core.Logic.{_⊎_, inl, inr, ⊎-elim}
+use mathlib.Core.Logic.{_⊎_, inr, ⊎-elim}
 use mathlib.Core.List.{List}
 use Prim.Native.Nat.{ℕ, _+_, _-_, _/_, _≤_, _<_}
 use native.Mathlib.Omega.{arith}
 use lib.ListN.{length}
-use Rattle.store.specs.Store.{word, mark, pointerTo, frameNo, poolNo}
+use Rattle.store.specs.Store.{word, mark, pointerTo, poolNo}
 use Rattle.store.specs.Level.{home, level}
-use Rattle.store.specs.WellFormed.{Inner, Pointed, Points, Named}
+use Rattle.store.specs.WellFormed.{Inner, Points}
 use Rattle.store.proofs.Levels.{level-less}
 use Rattle.well_formed.specs.Scan.{TableOk, FrameOk}
 

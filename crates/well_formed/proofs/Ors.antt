@@ -9,7 +9,7 @@ use lib.Pow.{pow-pos}
 use lib.Bits.{bitOr, or-add-and, and-le-l, and-le-r, or-mod, or-shr, or-lt}
 use Rattle.address.specs.Field.{bit}
 use Rattle.store.specs.Store.{word}
-use Rattle.well_formed.specs.Scan.{Each, Zeros, OrOf, OddOrZero, FlagOf, FlagsOf}
+use Rattle.well_formed.specs.Scan.{Zeros, OrOf, OddOrZero, FlagOf, FlagsOf}
 use Rattle.well_formed.proofs.Parts.{each-none, each-part, each-more}
 
 -- an or is above both sides, and has their bits

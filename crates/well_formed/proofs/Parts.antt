@@ -1,13 +1,10 @@
 -- Claims and counts over a part, from a up to e: none, one more, joined, and the whole of them. Assumes nothing.
-use mathlib.Core.Path.{_≡_, refl, sym, subst, ap, _∙_}
+use mathlib.Core.Path.{_≡_, refl, sym, subst}
 use mathlib.Core.Logic.{by-cases}
-use mathlib.Core.Bool.{Bool, true, false}
-use Prim.Native.Nat.{ℕ, zero, suc, _+_, _-_, _≤_, _<_}
-use native.Mathlib.Nat.{le-refl}
+use Prim.Native.Nat.{ℕ, zero, suc, _+_, _≤_, _<_}
 use native.Mathlib.Decide.{decLe, decLt}
 use native.Mathlib.Numerals.{add-one}
 use native.Mathlib.Omega.{arith}
-use Rattle.store.specs.Says.{Says}
 use Rattle.store.specs.Sum.{sum}
 use Rattle.store.proofs.Sums.{sum-zero}
 use Rattle.well_formed.specs.Scan.{Each, Over}

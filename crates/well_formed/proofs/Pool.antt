@@ -1,20 +1,20 @@
 -- Counting pool frames: given W5, each level-0 word of the held window has its pool frame's mark exactly where there are as many
 -- such words as frames in use. Assumes nothing.
-use mathlib.Core.Path.{_≡_, refl, sym, ap, _∙_}
-use mathlib.Core.Logic.{_⊎_, inl, inr, ⊎-elim}
+use mathlib.Core.Path.{_≡_, sym, ap, _∙_}
+use mathlib.Core.Logic.{⊎-elim}
 use mathlib.Core.List.{List}
-use Prim.Native.Nat.{ℕ, zero, suc, _+_, _-_, _*_, _/_, _%_, _^_, _≤_, _<_}
+use Prim.Native.Nat.{ℕ, _+_, _-_, _*_, _/_, _^_, _≤_, _<_}
 use native.Mathlib.Decide.{ℕ-discrete, decLt}
 use native.Mathlib.Omega.{arith}
 use lib.ListN.{length}
 use Rattle.store.specs.Sum.{sum, same}
 use Rattle.store.specs.Store.{word, mark, frameNo, poolNo}
-use Rattle.store.specs.Level.{home, level}
-use Rattle.store.specs.WellFormed.{Outside, Held, Leaf, Named}
-use Rattle.store.proofs.Sums.{same-yes, same-no, same-le, same-one, same-times, same-none, sum-cong, sum-le, sum-pinch, at-most, sum-some, sum-only, marks-swap}
+use Rattle.store.specs.Level.{level}
+use Rattle.store.specs.WellFormed.{Held, Named}
+use Rattle.store.proofs.Sums.{same-yes, same-no, same-times, same-none, sum-cong, sum-pinch, sum-some, sum-only, marks-swap}
 use Rattle.store.proofs.Scans.{in-range}
 use Rattle.store.proofs.Taken.{taken, taken-some, taken-pos}
-use Rattle.well_formed.specs.Scan.{Shape, FrameOk, inWindow, leafWindowed}
+use Rattle.well_formed.specs.Scan.{FrameOk, inWindow, leafWindowed}
 
 module _ (ws ms fs : List ℕ) (w5 : (f : ℕ) → f < length fs → FrameOk ws ms fs f) (few : length fs ≤ 4096) where
   -- how many frames have the mark that names word w

@@ -2,12 +2,12 @@
 use mathlib.Core.Path.{_≡_, sym, _∙_, subst⁻¹}
 use mathlib.Core.Logic.{_⊎_, inl, inr, ⊎-elim}
 use mathlib.Core.List.{List}
-use Prim.Native.Nat.{ℕ, _+_, _-_, _/_, _%_, _^_, _≤_, _<_}
+use Prim.Native.Nat.{ℕ, _-_, _/_, _^_, _<_}
 use native.Mathlib.Nat.{zero-add, eq-zero-or-pos}
 use native.Mathlib.Decide.{ℕ-discrete, decLt}
 use native.Mathlib.Omega.{arith}
 use lib.ListN.{length}
-use Rattle.store.specs.Sum.{sum, same}
+use Rattle.store.specs.Sum.{sum}
 use Rattle.store.specs.Count.{free}
 use Rattle.store.specs.Store.{Store, Sized, word, mark, frameNo}
 use Rattle.store.specs.Level.{level}
@@ -18,7 +18,7 @@ use Rattle.store.proofs.Sums.{same-yes, same-one, at-most}
 use Rattle.store.proofs.Taken.{taken, free-taken, taken-some}
 use Rattle.store.proofs.Outcomes.{one-outcome}
 use Rattle.well_formed.specs.Check.{CheckReason, sizes, YesNo, CheckDone, Check, Judged}
-use Rattle.well_formed.specs.Scan.{Shape, Over, inWindow, leafWindowed, WordOk, WordsOk, TableOk, FrameOk}
+use Rattle.well_formed.specs.Scan.{Shape, Over, inWindow, leafWindowed, WordsOk, TableOk, FrameOk}
 use Rattle.well_formed.proofs.Pool.{all-held, counts-equal}
 
 -- a frame number in the held window is that of a word whose bits 27 and up are 8

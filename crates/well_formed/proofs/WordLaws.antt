@@ -1,22 +1,21 @@
 -- What each way out of the scans of words says. Assumes nothing.
-use mathlib.Core.Path.{_≡_, refl, sym, subst, ap, _∙_}
+use mathlib.Core.Path.{_≡_, sym, subst, ap, _∙_}
 use mathlib.Core.Logic.{_⊎_, inl, inr, ⊎-elim, by-cases}
 use mathlib.Core.List.{List}
 use mathlib.Core.Bool.{Bool, true, false}
-use Prim.Native.Nat.{ℕ, _+_, _*_, _/_, _%_, _^_, _≤_, _<_}
+use Prim.Native.Nat.{ℕ, _+_, _/_, _%_, _^_, _≤_, _<_}
 use native.Mathlib.Decide.{decLt}
 use native.Mathlib.Omega.{arith}
 use Rattle.address.specs.Field.{bit}
 use Rattle.store.specs.Says.{Says}
-use Rattle.store.specs.Sum.{same}
 use Rattle.store.specs.Store.{word, mark}
 use Rattle.store.specs.Level.{level}
-use Rattle.store.specs.WellFormed.{Inner, Points}
+use Rattle.store.specs.WellFormed.{Points}
 use Rattle.store.proofs.Sums.{same-times, same-none, same-no}
 use Rattle.store.proofs.Tests.{says-map}
 use Rattle.store.proofs.Levels.{level-free, level-root, root-level}
 use Rattle.well_formed.specs.declared.Part.{Part}
-use Rattle.well_formed.specs.Scan.{Each, Zeros, Pointers, Root, Shape, Shapes, OrOf, FlagsOf, Over, Finds, inWindow, windowed, leafWindowed, WordOk, WordsOk}
+use Rattle.well_formed.specs.Scan.{Zeros, Pointers, Root, Shape, Shapes, OrOf, FlagsOf, Over, Finds, inWindow, windowed, leafWindowed, WordOk, WordsOk}
 use Rattle.well_formed.proofs.Parts.{over-same, over-zero}
 
 -- an answer and its count, carried over to another claim and another function that agree

@@ -4,13 +4,12 @@ use mathlib.Core.Logic.{_⊎_}
 use mathlib.Core.Bool.{true}
 use mathlib.Core.List.{List}
 use Prim.Native.Nat.{ℕ, _+_, _-_, _*_, _/_, _%_, _^_, _≤_, _<_}
-use lib.ListN.{length}
 use Rattle.address.specs.Field.{bit}
 use Rattle.store.specs.Says.{Says}
 use Rattle.store.specs.Sum.{sum, same}
 use Rattle.store.specs.Store.{word, mark}
 use Rattle.store.specs.Level.{level}
-use Rattle.store.specs.WellFormed.{Inner, Pointed, Points, Outside, Named}
+use Rattle.store.specs.WellFormed.{Inner, Pointed, Points, Named}
 use Rattle.well_formed.specs.declared.Part.{Part}
 
 -- P holds from a up to, not including, e

@@ -1,5 +1,4 @@
 -- `map::enter::hang` meets its contract. Assumes nothing.
-use mathlib.Core.Path.{refl}
 use native.Mathlib.Omega.{arith}
 use borrow.Author.Needs.{needs}
 use Rattle.store.proofs.Free.{lowest-le}

@@ -1,5 +1,4 @@
 -- `map::enter::put_slot` meets its contract. Assumes nothing.
-use native.Mathlib.Omega.{arith}
 use borrow.Author.Needs.{needs}
 use Rattle.map.proofs.Slots.{put-low, put-in, put-past}
 use Rattle.map.proofs.enter.put_slot.Statement.{statement}

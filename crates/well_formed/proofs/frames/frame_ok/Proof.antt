@@ -1,6 +1,6 @@
 -- `well_formed::frames::frame_ok` meets its contract. Assumes nothing.
-use mathlib.Core.Path.{_≡_, sym, _∙_}
-use mathlib.Core.Logic.{inl, inr}
+use mathlib.Core.Path.{sym, _∙_}
+use mathlib.Core.Logic.{inl}
 use native.Mathlib.Omega.{arith}
 use borrow.Author.Needs.{needs}
 use Rattle.well_formed.proofs.MarkLaws.{frame-one, frame-level, frame-other, frame-named}

@@ -1,7 +1,6 @@
 -- `well_formed::pointers::pointers` meets its contract. The invariant: 32 words at a time are left. Assumes nothing.
 use mathlib.Core.Path.{_≡_}
-use Prim.Native.Nat.{_+_, _-_, _%_, _≤_}
-use native.Mathlib.Nat.{le-refl}
+use Prim.Native.Nat.{_-_, _%_, _≤_}
 use native.Mathlib.Omega.{arith}
 use borrow.Author.Needs.{needs}
 use Rattle.store.proofs.Tests.{not-left, not-taken}

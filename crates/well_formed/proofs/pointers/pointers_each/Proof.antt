@@ -3,7 +3,6 @@ use Rattle.well_formed.specs.Scan.{Pointers}
 use native.Mathlib.Nat.{le-refl}
 use Prim.Native.Nat.{_≤_, _-_}
 use borrow.Author.Needs.{needs}
-use native.Mathlib.Omega.{arith}
 use Rattle.store.proofs.Tests.{not-left, not-taken}
 use Rattle.well_formed.proofs.Parts.{each-none, each-more, each-part}
 use Rattle.well_formed.proofs.pointers.pointers_each.Statement.{statement}

@@ -2,7 +2,6 @@
 use Rattle.well_formed.specs.Scan.{OrOf}
 use Prim.Native.Nat.{_≤_, _-_}
 use borrow.Author.Needs.{needs}
-use native.Mathlib.Omega.{arith}
 use Rattle.well_formed.proofs.Ors.{or-none, or-more, or-done}
 use Rattle.well_formed.proofs.scan.any.Statement.{statement}
 use Rattle.well_formed.proofs.scan.any.Tie as tie

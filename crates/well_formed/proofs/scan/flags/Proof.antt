@@ -2,7 +2,6 @@
 use Rattle.well_formed.specs.Scan.{FlagsOf}
 use Prim.Native.Nat.{_≤_, _-_}
 use borrow.Author.Needs.{needs}
-use native.Mathlib.Omega.{arith}
 use Rattle.well_formed.proofs.Ors.{flags-none, flags-more, flags-done}
 use Rattle.well_formed.proofs.scan.flags.Statement.{statement}
 use Rattle.well_formed.proofs.scan.flags.Tie as tie

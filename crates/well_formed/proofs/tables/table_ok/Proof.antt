@@ -1,6 +1,5 @@
 -- `well_formed::tables::table_ok` meets its contract. Assumes nothing.
 use mathlib.Core.Logic.{inl, inr}
-use native.Mathlib.Omega.{arith}
 use borrow.Author.Needs.{needs}
 use Rattle.store.proofs.Tests.{not-left, not-taken}
 use Rattle.well_formed.proofs.MarkLaws.{table-free, table-astray, table-pointed, table-low}

@@ -4,7 +4,6 @@ use borrow.Author.Count.{below-more, below-none}
 use lib.ListN.{length}
 use Prim.Native.Nat.{ℕ, _≤_, _-_, _<_, zero-le}
 use borrow.Author.Needs.{needs}
-use native.Mathlib.Omega.{arith}
 use Rattle.store.proofs.Scans.{passed}
 use Rattle.store.proofs.Tests.{not-left, not-taken}
 use Rattle.well_formed.proofs.tables.tables_ok.Statement.{statement}
