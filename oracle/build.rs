@@ -7,8 +7,15 @@ use std::path::{Path, PathBuf};
 use std::{env, fs};
 
 const RUST_FILES: &str = "rust-files.txt";
-const ARCHIVES: [&str; 6] =
-    ["libaddress.a", "librounding.a", "libpage_table_entry.a", "libstore.a", "libwell_formed.a", "libwalk.a"];
+const ARCHIVES: [&str; 7] = [
+    "libaddress.a",
+    "librounding.a",
+    "libpage_table_entry.a",
+    "libstore.a",
+    "libwell_formed.a",
+    "libwalk.a",
+    "libmap.a",
+];
 
 fn main() {
     if env::var_os("CARGO_FEATURE_RUST").is_some() {

@@ -123,3 +123,22 @@ unsafe extern "C" {
         root: u64,
     ) -> Reply;
 }
+
+#[link(name = "map", kind = "static")]
+unsafe extern "C" {
+    pub fn ronakvesh_map(
+        words: *mut u64,
+        words_length: usize,
+        table_marks: *mut u32,
+        table_marks_length: usize,
+        bytes: *const u8,
+        bytes_length: usize,
+        frame_marks: *const u32,
+        frame_marks_length: usize,
+        root: u64,
+        va: u64,
+        pa: u64,
+        size: u64,
+        permissions: u64,
+    ) -> Reply;
+}

@@ -28,7 +28,7 @@ fn main() -> ExitCode {
         return ExitCode::from(2);
     };
     original::open();
-    let run = batch::compare(count);
+    let run = batch::compare(build, count);
     let missed = run.missed(count);
     report::print(build, &run);
     report::verdict(&run, &missed);

@@ -1,6 +1,7 @@
 //! In place of the Rust where it is not there.
 
 use crate::answer::Answer;
+use crate::call::map::Arguments;
 use crate::model::Store;
 
 /// Whether the Rust is there.
@@ -9,6 +10,8 @@ pub const IS_THERE: bool = false;
 pub fn open() {}
 
 pub fn hold(_: &Store) {}
+
+pub fn hold_words(_: &Store) {}
 
 pub fn holds(_: &Store) -> bool {
     true
@@ -19,5 +22,9 @@ pub fn pgt_translate(_: u64, _: u64) -> Answer {
 }
 
 pub fn as_satp(_: u64, _: u64) -> Answer {
+    unreachable!("the Rust is not there")
+}
+
+pub fn map(_: &Arguments) -> Answer {
     unreachable!("the Rust is not there")
 }

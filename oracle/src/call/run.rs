@@ -1,8 +1,11 @@
 //! What is counted over all stores.
 
+use crate::answer::Build;
+use crate::call::map::{self, Arguments, Mapped};
 use crate::call::original;
+use crate::call::read::{self, Tried};
 use crate::call::sides::CALLS;
-use crate::call::tally::{Tally, Tried};
+use crate::call::tally::Tally;
 
 /// How many differences are printed.
 const SHOWN: usize = 10;
@@ -11,6 +14,9 @@ const SHOWN: usize = 10;
 const CALLS_FOR_ONE: u64 = 1000;
 
 pub struct Run {
+    /// The build of the Rust, where it is there.
+    build: Option<Build>,
+    /// One for each call that only reads, then that of `map`.
     pub tallies: Vec<Tally>,
     /// The stores on which calls were made, and how many of them are well formed.
     pub stores: u64,
@@ -22,9 +28,11 @@ pub struct Run {
 }
 
 impl Run {
-    pub fn new() -> Self {
+    pub fn new(build: Option<Build>) -> Self {
+        let reads = CALLS.iter().map(|call| &call.named);
         Run {
-            tallies: CALLS.iter().map(Tally::new).collect(),
+            build,
+            tallies: reads.chain([map::named(build)]).map(Tally::new).collect(),
             stores: 0,
             well_formed: 0,
             written: 0,
@@ -37,13 +45,25 @@ impl Run {
         self.tallies.iter().all(|tally| tally.on_roots >= count)
     }
 
-    /// Makes each call, and keeps its differences with what is said of the store.
+    /// Makes each call that only reads, and keeps its differences with what is said of the store.
     pub fn judge(&mut self, tried: &Tried, (root, va): (u64, u64), store: &str) {
-        for tally in &mut self.tallies {
-            for text in tally.judge(tried, root, va) {
-                if self.shown.len() < SHOWN {
-                    self.shown.push(format!("{text} ({store})"));
-                }
+        for (place, call) in CALLS.iter().enumerate() {
+            let told = read::judge(call, &mut self.tallies[place], tried, (root, va));
+            self.show(told, store);
+        }
+    }
+
+    /// Calls `map`, and keeps its differences with what is said of the store.
+    pub fn judge_map(&mut self, mapped: &mut Mapped, arguments: &Arguments, store: &str) {
+        let told = map::judge(&mut self.tallies[CALLS.len()], mapped, arguments, self.build);
+        self.show(told, store);
+    }
+
+    /// Keeps the first differences, with what is said of the store.
+    fn show(&mut self, told: Vec<String>, store: &str) {
+        for text in told {
+            if self.shown.len() < SHOWN {
+                self.shown.push(format!("{text} ({store})"));
             }
         }
     }
@@ -65,12 +85,12 @@ impl Run {
     pub fn missed(&self, count: u64) -> Vec<String> {
         let mut missed = Vec::new();
         for tally in &self.tallies {
-            let refusals = tally.call.refusals.iter().map(|number| format!("refused with {number}"));
-            let differences = tally.call.differences.iter().map(|name| name.to_string());
+            let refusals = tally.named.refusals.iter().map(|number| format!("refused with {number}"));
+            let differences = tally.named.differences.iter().map(|name| name.to_string());
             let listed = tally.listed.iter().filter(|_| original::IS_THERE);
             for (name, &met) in refusals.zip(&tally.refused).chain(differences.zip(listed)) {
                 if met < count / CALLS_FOR_ONE {
-                    missed.push(format!("{}: {name}: {met}", tally.call.name));
+                    missed.push(format!("{}: {name}: {met}", tally.named.name));
                 }
             }
         }

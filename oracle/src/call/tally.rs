@@ -1,23 +1,13 @@
 //! What is counted for one call.
 
 use crate::answer::Answer;
-use crate::call::original;
-use crate::call::sides::Call;
-use crate::check::proved::{reply, Lent};
+use crate::archive::Reply;
+use crate::call::sides::Named;
+use crate::check::proved::reply;
 use crate::listed::Listed;
-use crate::model::numbers::ROOT;
-use crate::model::Store;
-
-/// A store on which calls are made: as the model has it, as it is lent to ours, and whether it is well formed. Where it
-/// is, the Rust has it too.
-pub struct Tried<'a> {
-    pub store: &'a Store,
-    pub lent: Lent<'a>,
-    pub well_formed: bool,
-}
 
 pub struct Tally {
-    pub call: &'static Call,
+    pub named: &'static Named,
     pub calls: u64,
     /// How often the model answers.
     pub answered: u64,
@@ -34,42 +24,46 @@ pub struct Tally {
 }
 
 impl Tally {
-    pub fn new(call: &'static Call) -> Self {
-        let (refused, listed) = (vec![0; call.refusals.len()], vec![0; call.differences.len()]);
-        Tally { call, calls: 0, answered: 0, refused, on_roots: 0, equal: 0, listed, unlisted: 0, wrong: 0 }
+    pub fn new(named: &'static Named) -> Self {
+        let (refused, listed) = (vec![0; named.refusals.len()], vec![0; named.differences.len()]);
+        Tally { named, calls: 0, answered: 0, refused, on_roots: 0, equal: 0, listed, unlisted: 0, wrong: 0 }
     }
 
-    /// Compares ours with the model and with the Rust, and tells each difference.
-    pub fn judge(&mut self, tried: &Tried, root: u64, second: u64) -> Vec<String> {
-        let ours = (self.call.ours)(&tried.lent, root, second);
-        let model = (self.call.model)(tried.store, root, second);
-        let mut told = Vec::new();
+    /// Counts a call and tells where ours is not what the model says; `kept` is whether the slices are as they must be.
+    pub fn against_the_model(
+        &mut self,
+        with: &str,
+        ours: &Reply,
+        model: Result<u64, u64>,
+        kept: bool,
+    ) -> Option<String> {
         self.calls += 1;
         self.count(model);
-        if ours != reply(model) {
-            self.wrong += 1;
-            told.push(format!("{}({root}, {second:#x}): ours {ours}, the model {}", self.call.name, reply(model)));
+        let model = reply(model);
+        if *ours == model && kept {
+            return None;
         }
-        if tried.well_formed && tried.store.table_marks.get(root as usize) == Some(&ROOT) {
-            self.on_roots += 1;
-            if original::IS_THERE {
-                told.extend(self.against_the_rust(tried.store, ours.into(), root, second));
-            }
-        }
-        told
+        self.wrong += 1;
+        let slices = if kept { "" } else { ", and other slices" };
+        Some(format!("{}({with}): ours {ours}, the model {model}{slices}", self.named.name))
     }
 
-    /// Equal where nothing is listed, and exactly as listed elsewhere.
-    fn against_the_rust(&mut self, store: &Store, ours: Answer, root: u64, second: u64) -> Option<String> {
-        let rust = (self.call.rust)(root, second);
-        let listed = (self.call.listed)(store, root, second);
+    /// Equal where nothing is listed, and exactly as listed elsewhere; `same` is whether equal answers left equal pages.
+    pub fn against_the_rust(
+        &mut self,
+        with: &str,
+        (ours, rust): (Answer, Answer),
+        listed: Option<Listed>,
+        same: bool,
+    ) -> Option<String> {
         match &listed {
-            None if ours == rust => self.equal += 1,
+            None if ours == rust && same => self.equal += 1,
             Some(rule) if ours != rust && ours == rule.ours && rust == rule.rust => self.count_listed(rule.name),
             _ => {
                 self.unlisted += 1;
+                let pages = if same { "" } else { ", and other pages" };
                 let there = listed.map_or(String::new(), |Listed { name, .. }| format!(", listed there \"{name}\""));
-                return Some(format!("{}({root}, {second:#x}): ours {ours}, the Rust {rust}{there}", self.call.name));
+                return Some(format!("{}({with}): ours {ours}, the Rust {rust}{pages}{there}", self.named.name));
             }
         }
         None
@@ -79,14 +73,14 @@ impl Tally {
         match answer {
             Ok(_) => self.answered += 1,
             Err(number) => {
-                let place = self.call.refusals.iter().position(|&refusal| refusal == number);
+                let place = self.named.refusals.iter().position(|&refusal| refusal == number);
                 self.refused[place.expect("a refusal of the call")] += 1;
             }
         }
     }
 
     fn count_listed(&mut self, name: &str) {
-        let place = self.call.differences.iter().position(|&difference| difference == name);
+        let place = self.named.differences.iter().position(|&difference| difference == name);
         self.listed[place.expect("a listed difference of the call")] += 1;
     }
 }
