@@ -1,4 +1,4 @@
--- What each way out of `map` says, that two answers to one call are the same, and demand 3 of the call. Assumes nothing.
+-- What each way out of `map` says, and that two answers to one call are the same. Assumes nothing.
 use mathlib.Core.Path.{_≡_, refl, sym, ap, ap₂, _∙_, subst}
 use Prim.Native.Nat.{ℕ, _-_, _*_, _/_, _^_, _≤_, _<_}
 use native.Mathlib.Omega.{arith}
