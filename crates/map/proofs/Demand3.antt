@@ -12,7 +12,7 @@ use Rattle.walk.specs.Mapped.{Mapped}
 use Rattle.walk.specs.Missing.{missing}
 use Rattle.map.specs.Numbers.{pagesOf}
 use Rattle.map.specs.Reasons.{MapReason, MapReady, taken, too-few}
-use Rattle.map.specs.Demand3.{Fit, Room, Entered, Demand3}
+use Rattle.map.specs.Demand3.{Fit, Room, Entered, Kept, Demand3}
 use Rattle.map.proofs.ReasonLaws.{clear}
 use Rattle.map.proofs.ReadyLaws.{ready-entered}
 
@@ -48,9 +48,12 @@ module _ (s : Store) (root va pa size perm : ℕ) where
       enough = room .tables;
     }
 
-    pub demand-3 : Demand3 s root va pa size perm
-    demand-3 = record {
+    kept : Kept s root va pa size perm
+    kept = record {
       exactly = (λ d. room-of (d .2 .0), λ room. (_, _, (clear s root va pa size perm (ready room), (refl, refl))));
       entered = λ v s′ d. subst (Entered s root (firstPage va) n (pa / 4096) perm) (sym (d .1 .1)) (ready-entered s root va pa size perm (ready (room-of (d .0))));
       answer = λ v s′ d. d .1 .0;
     }
+
+pub demand-3 : (s : Store) (root va pa size perm : ℕ) → Demand3 s root va pa size perm
+demand-3 = kept

@@ -56,10 +56,13 @@ pub record Entered (s : Store) (r p n frame q : ℕ) (s′ : Store) : Type 0 whe
   pub none : n ≡ 0 → missing s r p n ≡ 0
   pub bound : 0 < n → missing s r p n ≤ (n + 510) / 512 + (n + 262142) / 262144 + 2
 
--- Of a call that meets none of the refusals 1 to 10.
-pub record Demand3 (s : Store) (root va pa size perm : ℕ) : Type 0 where
+-- what is asked of a call that meets none of the refusals 1 to 10
+pub record Kept (s : Store) (root va pa size perm : ℕ) : Type 0 where
   -- it succeeds exactly when no page of the range is mapped and the missing tables are no more than the free ones
   pub exactly : ((v : ℕ) × (s′ : Store) × Map s root va pa size perm (Done v) s′) ↔ Room s root (firstPage va) (pagesOf va size)
   -- then the pages are mapped, and the answer is the number of tables taken
   pub entered : (v : ℕ) (s′ : Store) → Map s root va pa size perm (Done v) s′ → Entered s root (firstPage va) (pagesOf va size) (pa / 4096) perm s′
   pub answer : (v : ℕ) (s′ : Store) → Map s root va pa size perm (Done v) s′ → v ≡ missing s root (firstPage va) (pagesOf va size)
+
+abbrev pub Demand3 : Store → ℕ → ℕ → ℕ → ℕ → ℕ → Type 0
+Demand3 s root va pa size perm = Fit s root (firstPage va) (pagesOf va size) (pa / 4096) perm → Kept s root va pa size perm
