@@ -1,7 +1,7 @@
 -- The loop that enters pages: what holds before each page, at the start and at the end. Assumes nothing.
 use mathlib.Core.Path.{_≡_, refl, sym, ap, ap₂, _∙_, subst}
 use mathlib.Core.List.{List, []}
-use Prim.Native.Nat.{ℕ, zero, suc, _+_, _-_, _*_, _/_, _^_, _≤_, _<_}
+use Prim.Native.Nat.{ℕ, zero, suc, _+_, _-_, _*_, _/_, _%_, _^_, _≤_, _<_}
 use native.Mathlib.Omega.{arith}
 use Rattle.store.specs.Store.{Store, storeOf}
 use Rattle.store.specs.Count.{lowest, freeTables}
@@ -9,8 +9,9 @@ use Rattle.store.specs.Walk.{slotWord, slot, resolve}
 use Rattle.store.proofs.Tree.{tree-of}
 use Rattle.walk.specs.Missing.{missing}
 use Rattle.walk.proofs.Calls.{root-in}
-use Rattle.map.specs.Enter.{ifZero, linked, hang, enterPage, enterPages, Plain, CanEnter, Enterable}
+use Rattle.map.specs.Enter.{ifZero, linked, hang, tabled, enterPage, enterPages, enterRun, CanEnter, RunFits}
 use Rattle.map.proofs.EnterPage.{lacks, slot-fits}
+use Rattle.map.proofs.Runs.{by-run, run-from, run-upto, tabled-length}
 use Rattle.map.proofs.EnterPages.{Ready, first, missing-first, missing-step}
 
 -- i of n pages are entered, and s is the store so far
@@ -83,29 +84,78 @@ module _ (s₀ : Store) (r p n e : ℕ) (s : Store) (i : ℕ) (g : Going s₀ r 
               ∙ ap (enterPages (enterPage s r (p + i) (e + 1024 * i)) r (p + (i + 1)) (n - (i + 1))) b;
         }
 
--- hanging a table does not look at frames
-hang-words : (ws ms bs fs : List ℕ) (m : ℕ) → hang (storeOf ws ms [] []) m .words ≡ hang (storeOf ws ms bs fs) m .words
+-- k pages more are entered
+onward : (s₀ : Store) (r p n e k : ℕ) (s : Store) (i : ℕ) → Going s₀ r p n e s i → i + k ≤ n → Going s₀ r p n e (enterPages s r (p + i) k (e + 1024 * i)) (i + k)
+unfolding enterPages
+onward s₀ r p n e zero s i g h = let q : i ≡ i + 0 = omega arith in subst (Going s₀ r p n e s) q g
+onward s₀ r p n e (suc k) s i g h =
+    let s₁ : Store = enterPage s r (p + i) (e + 1024 * i) in
+    let a : p + (i + 1) ≡ suc (p + i) = omega arith in
+    let b : e + 1024 * (i + 1) ≡ e + 1024 * i + 1024 = omega arith in
+    let c : i + 1 + k ≡ i + suc k = omega arith in
+    subst (λ (x : ℕ). Going s₀ r p n e (enterPages s₁ r (suc (p + i)) k (e + 1024 * i + 1024)) x) c
+    (subst (λ (x : ℕ). Going s₀ r p n e (enterPages s₁ r (suc (p + i)) k x) (i + 1 + k)) b
+    (subst (λ (x : ℕ). Going s₀ r p n e (enterPages s₁ r x k (e + 1024 * (i + 1))) (i + 1 + k)) a
+    (onward s₀ r p n e k s₁ (i + 1) (next s₀ r p n e s i g (omega arith)) (omega arith))))
+
+-- hanging tables does not look at frames
+hang-framed : (ws ms bs fs : List ℕ) (m : ℕ) → hang (storeOf ws ms bs fs) m ≡ storeOf (hang (storeOf ws ms [] []) m .words) (hang (storeOf ws ms [] []) m .tmarks) bs fs
 unfolding hang
-hang-words ws ms bs fs m = go (slotWord ws m)
+hang-framed ws ms bs fs m = go (slotWord ws m)
   where
-    go : (x : ℕ) → ifZero x (linked (storeOf ws ms [] []) m (lowest ms)) (storeOf ws ms [] []) .words ≡ ifZero x (linked (storeOf ws ms bs fs) m (lowest ms)) (storeOf ws ms bs fs) .words
+    go : (x : ℕ) → ifZero x (linked (storeOf ws ms bs fs) m (lowest ms)) (storeOf ws ms bs fs)
+        ≡ storeOf (ifZero x (linked (storeOf ws ms [] []) m (lowest ms)) (storeOf ws ms [] []) .words) (ifZero x (linked (storeOf ws ms [] []) m (lowest ms)) (storeOf ws ms [] []) .tmarks) bs fs
     go zero = refl
     go (suc x) = refl
 
--- what the code of one page asks
-pub can : (s₀ : Store) (r p n e : ℕ) (ws ms bs fs : List ℕ) (i : ℕ) → Going s₀ r p n e (storeOf ws ms bs fs) i → i < n → Enterable ws ms r (p + i)
-unfolding slot
-can s₀ r p n e ws ms bs fs i g h =
-    let f = more s₀ r p n e (storeOf ws ms bs fs) i g h in
-    let z : p + i + 0 ≡ p + i = omega arith in
-    let y : e + 1024 * i + 1024 * 0 ≡ e + 1024 * i = omega arith in
-    let m : ℕ = 512 * r + (p + i) / 512 / 512 + 2 in
-    record {
-      tables = f .sized .tables-to;
-      is-root = root-in (storeOf ws ms bs fs) r (f .sized) (f .root);
-      page = page s₀ r p n e (storeOf ws ms bs fs) i g h;
-      fits =
-          rw (hang-words ws ms bs fs m)
-          (slot-fits (storeOf ws ms bs fs) (f .sized) (f .tree) r (p + i) (e + 1024 * i) (f .root) (page s₀ r p n e (storeOf ws ms bs fs) i g h)
-          (sym (ap (resolve (storeOf ws ms bs fs) r) z) ∙ f .unmapped 0 (omega arith)) (subst Plain y (f .plain 0 (omega arith))) (few s₀ r p n e (storeOf ws ms bs fs) i g h));
-    }
+tabled-words : (ws ms bs fs : List ℕ) (r p : ℕ) → tabled (storeOf ws ms [] []) r p .words ≡ tabled (storeOf ws ms bs fs) r p .words
+unfolding tabled
+tabled-words ws ms bs fs r p =
+    let m : ℕ = slot (slotWord ws) r 0 (p / 512 / 512) in
+    let s₁ : Store = hang (storeOf ws ms [] []) m in
+    let second : Store → List ℕ = λ s. hang s (slot (slotWord (s .words)) r 1 (p / 512)) .words in
+    ap second (hang-framed ws ms [] [] m)
+    ∙ sym (ap (λ (s : Store). s .words) (hang-framed (s₁ .words) (s₁ .tmarks) bs fs (slot (slotWord (s₁ .words)) r 1 (p / 512)))) ∙ sym (ap second (hang-framed ws ms bs fs m))
+
+-- a run of the next k pages, all in one block
+module _ (s₀ : Store) (r p n e : ℕ) (ws ms bs fs : List ℕ) (i : ℕ) (g : Going s₀ r p n e (storeOf ws ms bs fs) i) where
+  abbrev s : Store
+  s = storeOf ws ms bs fs
+
+  ready : (k : ℕ) → i + k ≤ n → Ready k s r (p + i) (e + 1024 * i)
+  ready k h = let c = g .ready in record {
+    sized = c .sized;
+    tree = c .tree;
+    root = c .root;
+    range = λ j l. c .range j (omega arith);
+    unmapped = λ j l. c .unmapped j (omega arith);
+    plain = λ j l. c .plain j (omega arith);
+  }
+
+  -- what its code asks
+  pub can : (k : ℕ) → 0 < k → i + k ≤ n → (p + i) % 512 + k ≤ 512 → RunFits ws ms r (p + i) k (e + 1024 * i)
+  can zero o h l = absurd (omega arith)
+  can (suc k) o h l =
+      let c = ready (suc k) h in
+      let f = few s₀ r p n e s i g (omega arith) in
+      let q = page s₀ r p n e s i g (omega arith) in
+      let w = tabled-words ws ms bs fs r (p + i) in
+      let m : ℕ = slot (slotWord ws) r 0 ((p + i) / 512 / 512) in
+      record {
+        hangable = record {
+          tables = c .sized .tables-to;
+          is-root = root-in s r (c .sized) (c .root);
+          page = q;
+          fits = rw (sym (ap (λ (x : Store). x .words) (hang-framed ws ms bs fs m))) (slot-fits s (c .sized) (c .tree) r (p + i) (c .root) q f);
+        };
+        from = rw w (run-from k s r (p + i) (e + 1024 * i) c f l);
+        upto = rw w (omega (arith, run-upto k s r (p + i) (e + 1024 * i) c f l, tabled-length s r (p + i)));
+        small = omega (arith, c .plain k (omega arith) .small);
+      }
+
+  -- what holds after it
+  pub after : (k : ℕ) → 0 < k → i + k ≤ n → (p + i) % 512 + k ≤ 512 → (s′ : Store) → s′ ≡ enterRun s r (p + i) k (e + 1024 * i) → Going s₀ r p n e s′ (i + k)
+  after zero o h l s′ q = absurd (omega arith)
+  after (suc k) o h l s′ q =
+      subst (λ (x : Store). Going s₀ r p n e x (i + suc k)) (by-run k s r (p + i) (e + 1024 * i) (ready (suc k) h) (few s₀ r p n e s i g (omega arith)) l ∙ sym q)
+      (onward s₀ r p n e (suc k) s i g h)

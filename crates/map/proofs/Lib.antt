@@ -2,6 +2,7 @@
 pub mod NumberLaws
 pub mod ReasonLaws
 pub mod Slots
+pub mod PutRun
 pub mod Updates
 pub mod Tables
 pub mod Leaves
@@ -12,6 +13,7 @@ pub mod Write
 pub mod CreateLaws
 pub mod EnterPage
 pub mod EnterPages
+pub mod Runs
 pub mod Going
 pub mod Entered
 pub mod ReadyLaws

@@ -7,8 +7,8 @@ use lib.ListN.{length, set, length-set}
 use lib.Seq.{set-out}
 use Rattle.store.specs.Store.{Store, storeOf, pointerTo}
 use Rattle.store.specs.Count.{lowest}
-use Rattle.store.specs.Walk.{slotWord, slotIn}
-use Rattle.map.specs.Enter.{putSlot, linked, stored, ifZero, hang, enterPage, Becomes, Enterable}
+use Rattle.store.specs.Walk.{slotWord, slotIn, slot}
+use Rattle.map.specs.Enter.{putSlot, putRun, linked, ifZero, hang, tabled, enterRun, Becomes, Hangable, RunFits}
 
 -- a word put into a slot: below the first, among the words, past them
 pub put-low : (ws : List ℕ) (m v : ℕ) → m < 2 → ws ≡ putSlot ws m v
@@ -47,8 +47,8 @@ same-marks ws ms m ws′ ms′ h = ap (λ (s : Store). length (s .tmarks)) (h []
     go zero = length-set ms (lowest ms) m
     go (suc x) = refl
 
--- the three steps of a page, put together
-module _ (ws ms : List ℕ) (r p e : ℕ) (ws₁ ms₁ : List ℕ) (h₁ : Becomes ws ms (λ s. hang s (512 * r + p / 512 / 512 + 2)) ws₁ ms₁) where
+-- the two tables of a page, one after the other
+module _ (ws ms : List ℕ) (r p : ℕ) (ws₁ ms₁ : List ℕ) (h₁ : Becomes ws ms (λ s. hang s (512 * r + p / 512 / 512 + 2)) ws₁ ms₁) where
   abbrev m₂ : ℕ
   m₂ = 512 * r + p / 512 / 512 + 2
 
@@ -59,21 +59,25 @@ module _ (ws ms : List ℕ) (r p e : ℕ) (ws₁ ms₁ : List ℕ) (h₁ : Becom
     middle : m₁ ≡ slotIn (slotWord ws₁ m₂) (p / 512 % 512)
     middle = q₁ ∙ ap (λ (x : ℕ). slotIn x (p / 512 % 512)) q₂
 
-    pub fits : Enterable ws ms r p → m₁ < 2 ^ 32
+    pub fits : Hangable ws ms r p → m₁ < 2 ^ 32
+    unfolding slot
     fits c = rw (middle ∙ sym (ap (λ (l : List ℕ). slotIn (slotWord l m₂) (p / 512 % 512)) words₁)) (c .fits)
 
-    pub page-entered : (ws₀ ms₀ : List ℕ) (e₁ m₀ : ℕ) (ws′ : List ℕ) → Becomes ws₁ ms₁ (λ s. hang s m₁) ws₀ ms₀ → e₁ ≡ slotWord ws₀ m₁ → m₀ ≡ slotIn e₁ (p % 512) → ws′ ≡ putSlot ws₀ m₀ e
-        → Becomes ws ms (λ s. enterPage s r p e) ws′ ms₀
-    unfolding enterPage
-    page-entered ws₀ ms₀ e₁ m₀ ws′ h₀ q₀ k₀ w bs fs =
-        (λ i. record { words = w i; tmarks = ms₀; bytes = bs; fmarks = fs })
-        ∙ ap (λ (n : ℕ). stored (storeOf ws₀ ms₀ bs fs) n e) (k₀ ∙ ap (λ (x : ℕ). slotIn x (p % 512)) q₀)
-        ∙ ap (λ (s : Store). last s m₁) (h₀ bs fs)
-        ∙ ap (λ (n : ℕ). last (hang (storeOf ws₁ ms₁ bs fs) n) n) middle
-        ∙ ap rest (h₁ bs fs)
-      where
-        last : Store → ℕ → Store
-        last s n = stored s (slotIn (slotWord (s .words) n) (p % 512)) e
+    pub both-hung : (ws₀ ms₀ : List ℕ) → Becomes ws₁ ms₁ (λ s. hang s m₁) ws₀ ms₀ → Becomes ws ms (λ s. tabled s r p) ws₀ ms₀
+    unfolding tabled slot
+    both-hung ws₀ ms₀ h₀ bs fs =
+        h₀ bs fs ∙ ap (hang (storeOf ws₁ ms₁ bs fs)) middle ∙ ap (λ (s : Store). hang s (slotIn (slotWord (s .words) m₂) (p / 512 % 512))) (h₁ bs fs)
 
-        rest : Store → Store
-        rest s = last (hang s (slotIn (slotWord (s .words) m₂) (p / 512 % 512))) (slotIn (slotWord (s .words) m₂) (p / 512 % 512))
+-- the run of words after them: what it asks, and what it makes
+module _ (ws ms : List ℕ) (r p n e : ℕ) (ws₀ ms₀ : List ℕ) (m : ℕ) (h : Becomes ws ms (λ s. tabled s r p) ws₀ ms₀) (q : m ≡ slot (slotWord ws₀) r 2 p) where
+  place : m ≡ slot (slotWord (tabled (storeOf ws ms [] []) r p .words)) r 2 p
+  place = q ∙ ap (λ (s : Store). slot (slotWord (s .words)) r 2 p) (h [] [])
+
+  pub run-fits : RunFits ws ms r p n e → length ws₀ ≡ length ws → (2 ≤ m) × (m + n ≤ 2 + length ws₀) × (e + 1024 * n < 2 ^ 64)
+  run-fits f l = (omega (arith, place, f .from), omega (arith, place, f .upto, l), f .small)
+
+  pub run-entered : (ws′ : List ℕ) → ws′ ≡ putRun ws₀ m n e → Becomes ws ms (λ s. enterRun s r p n e) ws′ ms₀
+  unfolding enterRun
+  run-entered ws′ w bs fs =
+      (λ i. storeOf ((w ∙ ap (λ (x : ℕ). putRun ws₀ x n e) q) i) ms₀ bs fs)
+      ∙ ap (λ (s : Store). storeOf (putRun (s .words) (slot (slotWord (s .words)) r 2 p) n e) (s .tmarks) (s .bytes) (s .fmarks)) (h bs fs)

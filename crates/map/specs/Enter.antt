@@ -6,7 +6,7 @@ use lib.ListN.{length, set}
 use Rattle.store.specs.Store.{Store, storeOf, Sized, mark, pointerTo, frameNo}
 use Rattle.store.specs.WellFormed.{Outside, WellFormed}
 use Rattle.store.specs.Count.{lowest, freeTables}
-use Rattle.store.specs.Walk.{slotWord, slotIn, resolve}
+use Rattle.store.specs.Walk.{slotWord, slot, resolve}
 use Rattle.walk.specs.Missing.{missing}
 
 -- the words with v in slot m, which is word m - 2; slots 0 and 1 are no words
@@ -31,15 +31,15 @@ ifZero (suc x) a b = b
 unfoldable pub hang : Store → ℕ → Store
 hang s m = ifZero (slotWord (s .words) m) (linked s m (lowest (s .tmarks))) s
 
--- page p of root r gets the entry e: first its level-1 table is hung, then its level-0 table, then the word is written
+-- the two tables of page p of root r are hung where they are missing, the level-1 table before the level-0 table
+unfoldable pub tabled : Store → ℕ → ℕ → Store
+tabled s r p =
+    let s₁ : Store = hang s (slot (slotWord (s .words)) r 0 (p / 512 / 512)) in
+    hang s₁ (slot (slotWord (s₁ .words)) r 1 (p / 512))
+
+-- page p of root r gets the entry e: its tables are hung, then its word is written
 unfoldable pub enterPage : Store → ℕ → ℕ → ℕ → Store
-enterPage s r p e =
-    let m₂ : ℕ = 512 * r + p / 512 / 512 + 2 in  -- the root's slot for the page
-    let s₁ : Store = hang s m₂ in
-    let m₁ : ℕ = slotIn (slotWord (s₁ .words) m₂) (p / 512 % 512) in  -- the level-1 table's
-    let s₀ : Store = hang s₁ m₁ in
-    let m₀ : ℕ = slotIn (slotWord (s₀ .words) m₁) (p % 512) in  -- the level-0 table's
-    stored s₀ m₀ e
+enterPage s r p e = stored (tabled s r p) (slot (slotWord (tabled s r p .words)) r 2 p) e
 
 -- pages p .. p + n - 1, upward, get the entries e, e + 1024, ..: each next one names the next frame
 unfoldable pub enterPages : Store → ℕ → ℕ → ℕ → ℕ → Store
@@ -66,9 +66,27 @@ pub record CanEnter (s : Store) (r p n e : ℕ) : Type 0 where
 abbrev pub Becomes : List ℕ → List ℕ → (Store → Store) → List ℕ → List ℕ → Type 0
 Becomes ws ms f ws′ ms′ = (bs fs : List ℕ) → storeOf ws′ ms′ bs fs ≡ f (storeOf ws ms bs fs)
 
--- what entering one page asks of words and marks: numbers in range, and a slot in the level-1 table that a mark can hold
-pub record Enterable (ws ms : List ℕ) (r p : ℕ) : Type 0 where
+-- what hanging the tables of page p asks of words and marks: numbers in range, and a slot in the level-1 table that a mark can hold
+pub record Hangable (ws ms : List ℕ) (r p : ℕ) : Type 0 where
   pub tables : length ms ≤ 512
   pub is-root : r < 512
   pub page : p < 2 ^ 26
-  pub fits : slotIn (slotWord (hang (storeOf ws ms [] []) (512 * r + p / 512 / 512 + 2) .words) (512 * r + p / 512 / 512 + 2)) (p / 512 % 512) < 2 ^ 32
+  pub fits : slot (slotWord (hang (storeOf ws ms [] []) (slot (slotWord ws) r 0 (p / 512 / 512)) .words)) r 1 (p / 512) < 2 ^ 32
+
+-- the words with e, e + 1024, .. in n slots from slot m on
+unfoldable pub putRun : List ℕ → ℕ → ℕ → ℕ → List ℕ
+putRun ws m zero e = ws
+putRun ws m (suc n) e = putRun (putSlot ws m e) (suc m) n (e + 1024)
+
+-- pages p .. p + n - 1 of one block: the tables are hung once, then the words are written in one run
+unfoldable pub enterRun : Store → ℕ → ℕ → ℕ → ℕ → Store
+enterRun s r p n e =
+    let s₀ : Store = tabled s r p in
+    storeOf (putRun (s₀ .words) (slot (slotWord (s₀ .words)) r 2 p) n e) (s₀ .tmarks) (s₀ .bytes) (s₀ .fmarks)
+
+-- what entering them asks besides: n slots from that of page p on, and entries of 64 bits
+pub record RunFits (ws ms : List ℕ) (r p n e : ℕ) : Type 0 where
+  pub hangable : Hangable ws ms r p
+  pub from : 2 ≤ slot (slotWord (tabled (storeOf ws ms [] []) r p .words)) r 2 p
+  pub upto : slot (slotWord (tabled (storeOf ws ms [] []) r p .words)) r 2 p + n ≤ 2 + length ws
+  pub small : e + 1024 * n < 2 ^ 64

@@ -1,10 +1,9 @@
 // The work of map, which cannot fail: tables are hung where they are missing, and pages get their entries.
 ghost use mathlib.Core.Path.{_≡_};
-ghost use Prim.Native.Nat.{_+_, _*_, _/_, _%_, _^_, _<_, _≤_};
+ghost use Prim.Native.Nat.{_+_, _*_, _^_, _<_, _≤_};
 ghost use lib.ListN.{length, set};
 ghost use Rattle.store.specs.Store.{Store, storeOf};
-ghost use Rattle.store.specs.Walk.{slotWord, slotIn};
-ghost use Rattle.map.specs.Enter.{putSlot, Becomes, enterPage, enterPages, CanEnter, Enterable, hang as Enter·hang};
+ghost use Rattle.map.specs.Enter.{putSlot, putRun, Becomes, tabled, enterRun, enterPages, CanEnter, Hangable, RunFits, hang as Enter·hang};
 
 // v goes into slot m; slots 0 and 1 are no words, nor are those past the end.
 fn put_slot(words: &mut [u64], m: usize, v: u64)
@@ -41,20 +40,41 @@ fn hang(words: &mut [u64], tmarks: &mut [u32], m: usize)
     put_mark(tmarks, t, m as u32);
 }
 
-// The page gets the entry e: its level-1 table, its level-0 table, its word.
-fn enter_page(words: &mut [u64], tmarks: &mut [u32], root: usize, page: usize, e: u64)
-    requires { ⌜ Enterable (now words) (now tmarks) root page ⌝ }
-    ensures { λ _. ⌜ Becomes (now (words .entry)) (now (tmarks .entry)) (λ (s : Store). enterPage s root page e) (now (words .exit)) (now (tmarks .exit)) ⌝ }
+// The page's level-1 table and then its level-0 table are hung, where they are missing.
+pub fn hang_tables(words: &mut [u64], tmarks: &mut [u32], root: usize, page: usize)
+    requires { ⌜ Hangable (now words) (now tmarks) root page ⌝ }
+    ensures { λ _. ⌜ Becomes (now (words .entry)) (now (tmarks .entry)) (λ (s : Store). tabled s root page) (now (words .exit)) (now (tmarks .exit)) ⌝ }
 {
     let top = 512 * root + page / 512 / 512 + 2;
     hang(words, tmarks, top);
     let middle = walk::slot_in(walk::slot_word(words, top), page / 512 % 512);
     hang(words, tmarks, middle);
-    let last = walk::slot_in(walk::slot_word(words, middle), page % 512);
-    put_slot(words, last, e);
 }
 
-// n pages from first on get the entries e, e + 1024, .. The frames are lent so that the promise can speak of the whole store.
+// n slots from slot m on get e, e + 1024, ..
+fn put_run(words: &mut [u64], m: usize, n: usize, e: u64)
+    requires { ⌜ (2 ≤ m) × (m + n ≤ 2 + length (now words)) × (e + 1024 * n < 2 ^ 64) ⌝ }
+    ensures { λ _. ⌜ now (words .exit) ≡ putRun (now (words .entry)) m n e ⌝ }
+{
+    let w = m - 2;
+    let mut i = 0;
+    while i < n {
+        words[w + i] = e + 1024 * (i as u64);
+        i += 1;
+    }
+}
+
+// n pages of one block, from page on, get the entries e, e + 1024, ..: one walk for all of them.
+fn enter_run(words: &mut [u64], tmarks: &mut [u32], root: usize, page: usize, n: usize, e: u64)
+    requires { ⌜ RunFits (now words) (now tmarks) root page n e ⌝ }
+    ensures { λ _. ⌜ Becomes (now (words .entry)) (now (tmarks .entry)) (λ (s : Store). enterRun s root page n e) (now (words .exit)) (now (tmarks .exit)) ⌝ }
+{
+    hang_tables(words, tmarks, root, page);
+    let m = walk::slot_of(words, root, page);
+    put_run(words, m, n, e);
+}
+
+// n pages from first on get the entries e, e + 1024, .., block by block. The frames are lent so that the promise can speak of the whole store.
 pub fn enter_pages(
     words: &mut [u64],
     tmarks: &mut [u32],
@@ -71,7 +91,9 @@ pub fn enter_pages(
 {
     let mut i = 0;
     while i < n {
-        enter_page(words, tmarks, root, first + i, e + 1024 * (i as u64));
-        i += 1;
+        let page = first + i;
+        let k = walk::lesser(512 - page % 512, n - i);
+        enter_run(words, tmarks, root, page, k, e + 1024 * (i as u64));
+        i += k;
     }
 }

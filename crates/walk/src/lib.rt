@@ -6,6 +6,7 @@ mod ranges;
 mod steps;
 mod translate;
 
+pub use missing::lesser;
 pub use missing::missing_tables;
 pub use ranges::any_mapped;
 pub use steps::slot_in;

@@ -1,11 +1,11 @@
 -- `map::enter::enter_pages` meets its contract. The invariant: the pages before i are entered, and entering the rest gives the whole. Assumes nothing.
-use mathlib.Core.Path.{_≡_, sym, subst}
-use Prim.Native.Nat.{_+_, _-_}
+use mathlib.Core.Path.{_≡_}
+use Prim.Native.Nat.{_-_}
 use lib.ListN.{length}
 use native.Mathlib.Omega.{arith}
 use borrow.Author.Needs.{needs}
-use Rattle.store.specs.Store.{Store, storeOf}
-use Rattle.map.proofs.Going.{Going, start, page, small, next, can, done}
+use Rattle.store.specs.Store.{storeOf}
+use Rattle.map.proofs.Going.{Going, start, page, small, can, after, done}
 use Rattle.map.proofs.enter.enter_pages.Statement.{statement}
 use Rattle.map.proofs.enter.enter_pages.Tie as tie
 
@@ -21,44 +21,57 @@ loop-holds c =
     let a = c .before .before .before .before .args in
     (search needs, search needs, start (storeOf (a .words .now) (a .tmarks .now) (a .bytes .now) (a .fmarks .now)) (a .root) (a .first) (a .n) (a .e) (c .before .before .before .before .pre))
 
-add-enter-page : tie.Need-add-enter-page Inv-loop μ-loop
-add-enter-page c =
-    let a = c .before .before .before .before .before .before .before .before .args in
-    let l = c .before .before .before .loop in
-    omega (arith, page (storeOf (a .words .now) (a .tmarks .now) (a .bytes .now) (a .fmarks .now)) (a .root) (a .first) (a .n) (a .e) (storeOf (l .words) (l .tmarks) (a .bytes .now) (a .fmarks .now)) (l .i) (l .inv .2) (c .before .before .loop-test .taken))
+add-page : tie.Need-add-page Inv-loop μ-loop
+add-page c =
+    let a = c .before .before .before .before .before .before .args in
+    let l = c .before .loop in
+    omega (arith, page (storeOf (a .words .now) (a .tmarks .now) (a .bytes .now) (a .fmarks .now)) (a .root) (a .first) (a .n) (a .e) (storeOf (l .words) (l .tmarks) (a .bytes .now) (a .fmarks .now)) (l .i) (l .inv .2) (c .loop-test .taken))
 
-mul-enter-page : tie.Need-mul-enter-page Inv-loop μ-loop
-mul-enter-page c =
-    let a = c .before .before .before .before .before .before .before .before .args in
-    let l = c .before .before .before .loop in
-    omega (arith, small (storeOf (a .words .now) (a .tmarks .now) (a .bytes .now) (a .fmarks .now)) (a .root) (a .first) (a .n) (a .e) (storeOf (l .words) (l .tmarks) (a .bytes .now) (a .fmarks .now)) (l .i) (l .inv .2) (c .before .before .loop-test .taken))
+sub-lesser : tie.Need-sub-lesser Inv-loop μ-loop
+sub-lesser c = search needs
 
-add-enter-page-2 : tie.Need-add-enter-page-2 Inv-loop μ-loop
-add-enter-page-2 c =
-    let a = c .before .before .before .before .before .before .before .before .args in
-    let l = c .before .before .before .loop in
-    omega (arith, small (storeOf (a .words .now) (a .tmarks .now) (a .bytes .now) (a .fmarks .now)) (a .root) (a .first) (a .n) (a .e) (storeOf (l .words) (l .tmarks) (a .bytes .now) (a .fmarks .now)) (l .i) (l .inv .2) (c .before .before .loop-test .taken))
+sub-lesser-2 : tie.Need-sub-lesser-2 Inv-loop μ-loop
+sub-lesser-2 c = search needs
 
-enter-page-requires : tie.Need-enter-page-requires Inv-loop μ-loop
-enter-page-requires c κs =
-    let a = c .before .before .before .before .before .before .before .before .args in
-    let l = c .before .before .before .loop in
-    can (storeOf (a .words .now) (a .tmarks .now) (a .bytes .now) (a .fmarks .now)) (a .root) (a .first) (a .n) (a .e) (l .words) (l .tmarks) (a .bytes .now) (a .fmarks .now) (l .i) (l .inv .2) (c .before .before .loop-test .taken)
+lesser-requires : tie.Need-lesser-requires Inv-loop μ-loop
+lesser-requires c κs = search needs
+
+mul-enter-run : tie.Need-mul-enter-run Inv-loop μ-loop
+mul-enter-run c =
+    let a = c .before .before .before .before .before .before .before .before .before .args in
+    let l = c .before .before .before .before .loop in
+    omega (arith, small (storeOf (a .words .now) (a .tmarks .now) (a .bytes .now) (a .fmarks .now)) (a .root) (a .first) (a .n) (a .e) (storeOf (l .words) (l .tmarks) (a .bytes .now) (a .fmarks .now)) (l .i) (l .inv .2) (c .before .before .before .loop-test .taken))
+
+add-enter-run : tie.Need-add-enter-run Inv-loop μ-loop
+add-enter-run c =
+    let a = c .before .before .before .before .before .before .before .before .before .args in
+    let l = c .before .before .before .before .loop in
+    omega (arith, small (storeOf (a .words .now) (a .tmarks .now) (a .bytes .now) (a .fmarks .now)) (a .root) (a .first) (a .n) (a .e) (storeOf (l .words) (l .tmarks) (a .bytes .now) (a .fmarks .now)) (l .i) (l .inv .2) (c .before .before .before .loop-test .taken))
+
+enter-run-requires : tie.Need-enter-run-requires Inv-loop μ-loop
+enter-run-requires c κs =
+    let a = c .before .before .before .before .before .before .before .before .before .args in
+    let l = c .before .before .before .before .loop in
+    let t = c .before .before .before .loop-test .taken in
+    let k = c .before .before .lesser .ensures in
+    can (storeOf (a .words .now) (a .tmarks .now) (a .bytes .now) (a .fmarks .now)) (a .root) (a .first) (a .n) (a .e) (l .words) (l .tmarks) (a .bytes .now) (a .fmarks .now) (l .i) (l .inv .2) _ (omega (arith, k, t)) (omega (arith, k, t)) (omega (arith, k, t))
 
 add-i : tie.Need-add-i Inv-loop μ-loop
-add-i c = search needs
+add-i c = omega (arith, c .before .before .before .before .before .before .before .lesser .ensures, c .before .before .before .before .before .before .before .before .loop-test .taken)
 
 loop-less : tie.Need-loop-less Inv-loop μ-loop
-loop-less c = search needs
+loop-less c = omega (arith, c .before .before .before .before .before .before .before .lesser .ensures, c .before .before .before .before .before .before .before .before .loop-test .taken)
 
 loop-again : tie.Need-loop-again Inv-loop μ-loop
 loop-again c =
-    let a = c .before .before .before .before .before .before .before .before .before .before .before .before .before .args in
-    let l = c .before .before .before .before .before .before .before .before .loop in
-    let went = c .before .before .before .before .enter-page .ensures (a .bytes .now) (a .fmarks .now) in (
+    let a = c .before .before .before .before .before .before .before .before .before .before .before .before .before .before .args in
+    let l = c .before .before .before .before .before .before .before .before .before .loop in
+    let t = c .before .before .before .before .before .before .before .before .loop-test .taken in
+    let k = c .before .before .before .before .before .before .before .lesser .ensures in
+    let went = c .before .before .before .before .enter-run .ensures (a .bytes .now) (a .fmarks .now) in (
       search needs,
       search needs,
-      subst (λ (s : Store). Going (storeOf (a .words .now) (a .tmarks .now) (a .bytes .now) (a .fmarks .now)) (a .root) (a .first) (a .n) (a .e) s (l .i + 1)) (sym went) (next (storeOf (a .words .now) (a .tmarks .now) (a .bytes .now) (a .fmarks .now)) (a .root) (a .first) (a .n) (a .e) (storeOf (l .words) (l .tmarks) (a .bytes .now) (a .fmarks .now)) (l .i) (l .inv .2) (c .before .before .before .before .before .before .before .loop-test .taken)),
+      after (storeOf (a .words .now) (a .tmarks .now) (a .bytes .now) (a .fmarks .now)) (a .root) (a .first) (a .n) (a .e) (l .words) (l .tmarks) (a .bytes .now) (a .fmarks .now) (l .i) (l .inv .2) _ (omega (arith, k, t)) (omega (arith, k, t)) (omega (arith, k, t)) _ went,
     )
 
 same-length : tie.Need-same-length Inv-loop μ-loop
@@ -80,10 +93,13 @@ enter-pages-spec =
     Inv-loop
     μ-loop
     loop-holds
-    add-enter-page
-    mul-enter-page
-    add-enter-page-2
-    enter-page-requires
+    add-page
+    sub-lesser
+    sub-lesser-2
+    lesser-requires
+    mul-enter-run
+    add-enter-run
+    enter-run-requires
     add-i
     loop-less
     loop-again
