@@ -12,10 +12,11 @@ use Rattle.store.proofs.Outcomes.{judges-no, judges-ok}
 use Rattle.well_formed.specs.Check.{Judged}
 use Rattle.well_formed.proofs.Verdict.{judged-no}
 use Rattle.walk.specs.Mapped.{Mapped}
-use Rattle.walk.specs.Missing.{missingIn, missing}
-use Rattle.walk.specs.Ranges.{SomePage}
-use Rattle.walk.proofs.MissingLaws.{entry-in, missing-in, missing-none}
-use Rattle.walk.proofs.Pages.{mapped-word, word-mapped}
+use Rattle.walk.specs.Missing.{entryIn, missingIn, missing}
+use Rattle.walk.specs.Ranges.{PagesAlike}
+use Rattle.walk.proofs.MissingLaws.{missing-in, missing-none}
+use Rattle.walk.proofs.Counts.{one-has, none-has}
+use Rattle.walk.proofs.Pages.{counted-mapped, mapped-counted}
 use Rattle.map.specs.Numbers.{pagesOf, NumberReason, NumbersReady, too-long, too-high, permissions, frame-high, held}
 use Rattle.map.specs.Reasons.{MapReason, sizes, unformed, no-root, numbers, taken, too-few, MapReady}
 use Rattle.map.proofs.NumberLaws.{ready-least}
@@ -98,33 +99,34 @@ module _ (s : Store) (root va pa size perm : ℕ) where
             })
 
         module _ (h : first < end) where
-          high : end ≤ 2 ^ 26
-          high = omega (arith, o .pages (omega arith))
-
-          pub no-14 : SomePage (s .words) root first end → Judges R F 14
-          no-14 (p, f, t, n) =
-              judges-no R F 14 (omega arith) (record {
-                applies = taken p (omega arith) (omega arith) (mapped-word s z w root r p (omega (arith, high)) (λ e. n (entry-in s root 2 p ∙ e)));
-                least = least 14 (λ l. z) (λ l. w) (λ l. r) (λ k l. fine 14 k l) (λ l. absurd (omega arith)) (λ l. absurd (omega arith));
-              })
-
-          free-range : (SomePage (s .words) root first end → ⊥) → Unmapped
-          free-range n p f t m = n (p, omega arith, omega arith, λ e. word-mapped s z w root r p (omega (arith, high)) m (sym (entry-in s root 2 p) ∙ e))
-
           lacks : (m : ℕ) → m ≡ missingIn (s .words) root first (end - first) → m ≡ missing s root (firstPage va) (pagesOf va size)
           lacks m e = e ∙ missing-in s root first (end - first) ∙ ap (λ (p : ℕ). missing s root p (end - first)) ef ∙ ap (missing s root (firstPage va)) (sym pages)
 
-          module _ (n : SomePage (s .words) root first end → ⊥) (f m : ℕ) (eq : f ≡ free (s .tmarks)) (em : m ≡ missingIn (s .words) root first (end - first)) where
-            pub no-17 : f < m → Judges R F 17
-            no-17 l =
-                judges-no R F 17 (omega arith) (record {
-                  applies = too-few (omega (arith, lacks m em));
-                  least = least 17 (λ l. z) (λ l. w) (λ l. r) (λ k l. fine 17 k l) (λ l. free-range n) (λ l. absurd (omega arith));
+          -- c of the pages are mapped
+          module _ (c : ℕ) (count : PagesAlike (s .words) root first end 1 1 c) where
+            pub no-14 : (c ≡ 0 → ⊥) → Judges R F 14
+            no-14 n =
+                let q = one-has (entryIn (s .words) root 2) 1 1 first end c (omega arith) count (omega arith) in
+                judges-no R F 14 (omega arith) (record {
+                  applies = taken (q .0) (omega (arith, q .1)) (omega (arith, q .2)) (counted-mapped s root (q .0) (q .3));
+                  least = least 14 (λ l. z) (λ l. w) (λ l. r) (λ k l. fine 14 k l) (λ l. absurd (omega arith)) (λ l. absurd (omega arith));
                 })
 
-            pub all-ready : m ≤ f → Judges R F 0
-            all-ready l =
-                judges-ok R F 0 refl (record { sized = z; formed = w; is-root = r; numbers = o; unmapped = free-range n; enough = omega (arith, lacks m em) })
+            free-range : c ≡ 0 → Unmapped
+            free-range n p f t m =
+                none-has (entryIn (s .words) root 2) 1 1 first end c (omega arith) count n p (omega arith) (omega arith) (mapped-counted s root p m)
+
+            module _ (n : c ≡ 0) (f m : ℕ) (eq : f ≡ free (s .tmarks)) (em : m ≡ missingIn (s .words) root first (end - first)) where
+              pub no-17 : f < m → Judges R F 17
+              no-17 l =
+                  judges-no R F 17 (omega arith) (record {
+                    applies = too-few (omega (arith, lacks m em));
+                    least = least 17 (λ l. z) (λ l. w) (λ l. r) (λ k l. fine 17 k l) (λ l. free-range n) (λ l. absurd (omega arith));
+                  })
+
+              pub all-ready : m ≤ f → Judges R F 0
+              all-ready l =
+                  judges-ok R F 0 refl (record { sized = z; formed = w; is-root = r; numbers = o; unmapped = free-range n; enough = omega (arith, lacks m em) })
 
   -- where the call is ready no reason applies
   pub clear : F → NoReason R

@@ -7,6 +7,7 @@ pub mod Spans
 pub mod MissingLaws
 pub mod Groups
 pub mod RangeLaws
+pub mod Counts
 pub mod Pages
 pub mod Calls
 pub mod TranslateLaws

@@ -1,76 +1,54 @@
--- Looking for a number that is not 0 in a part, and for a level-0 word in a range of pages. Assumes nothing.
-use mathlib.Core.Path.{_≡_, sym, ap, _∙_}
+-- Counting the pages of a range by bits of their words, part by part. Assumes nothing.
+use mathlib.Core.Path.{_≡_, refl, sym, ap, _∙_}
 use mathlib.Core.Logic.{by-cases}
 use mathlib.Core.List.{List}
 use Prim.Native.Nat.{ℕ, zero, suc, _+_, _-_, _*_, _/_, _%_, _≤_, _<_}
-use native.Mathlib.Decide.{ℕ-discrete, decLe, decLt}
+use native.Mathlib.Decide.{decLe, decLt}
 use native.Mathlib.Omega.{arith}
-use lib.ListN.{length}
+use lib.Bits.{bitAnd}
+use lib.ListN.{length, List·getD-eq-default}
 use Rattle.store.specs.Store.{word}
+use Rattle.store.specs.Sum.{sum, same}
 use Rattle.store.specs.Walk.{slotWord, slotIn, slot}
-use Rattle.store.proofs.Scans.{in-range}
+use Rattle.store.proofs.Sums.{same-no, sum-split, sum-cong}
 use Rattle.store.proofs.Tree.{word-slot}
+use Rattle.well_formed.specs.Scan.{Over}
+use Rattle.well_formed.proofs.Parts.{over-join, over-same, over-zero}
 use Rattle.walk.specs.Missing.{entryIn, entryUnder}
-use Rattle.walk.specs.Ranges.{SomeOf, pageUnder}
+use Rattle.walk.specs.Ranges.{alike, pageUnder}
 use Rattle.walk.proofs.Groups.{slot-none, under-none}
 
 -- ---- parts
 
-module _ (g : ℕ → ℕ) where
-  pub some-none : (a : ℕ) → SomeOf g a a → ⊥
-  some-none a (k, p, q, n) = omega arith
-
-  pub some-part : (a b c e : ℕ) → a ≤ b → c ≤ e → SomeOf g b c → SomeOf g a e
-  some-part a b c e l h (k, p, q, n) = (k, omega arith, omega arith, n)
-
-  pub none-join : (a b e : ℕ) → (SomeOf g a b → ⊥) → (SomeOf g b e → ⊥) → SomeOf g a e → ⊥
-  none-join a b e x y (k, p, q, n) = by-cases (decLt k b) (λ s. x (k, p, s, n)) (λ s. y (k, omega arith, q, n))
-
-  -- where not all are 0, one is found that is not
-  pub some-found : (a e : ℕ) → (((k : ℕ) → a ≤ k → k < e → g k ≡ 0) → ⊥) → SomeOf g a e
-  some-found a zero h = absurd (h (λ k p q. absurd (omega arith)))
-  some-found a (suc e) h = go (decLe a e) (ℕ-discrete (g e) 0) (some-found a e)
-    where
-      last : g e ≡ 0 → ((k : ℕ) → a ≤ k → k < e → g k ≡ 0) → (k : ℕ) → a ≤ k → k < suc e → g k ≡ 0
-      last z all k p q = by-cases (decLt k e) (λ s. all k p s) (λ s. let x : k ≡ e = omega arith in ap g x ∙ z)
-
-      go : Dec (a ≤ e) → Dec (g e ≡ 0) → ((((k : ℕ) → a ≤ k → k < e → g k ≡ 0) → ⊥) → SomeOf g a e) → SomeOf g a (suc e)
-      go (yes l) (no n) ih = (e, l, omega arith, n)
-      go (yes l) (yes z) ih = some-part a a e (suc e) (omega arith) (omega arith) (ih (λ all. h (last z all)))
-      go (no l) d ih = absurd (h (λ k p q. absurd (omega arith)))
-
--- a search for h that goes on from p to n with a function that agrees there
-module _ (g h : ℕ → ℕ) (a p n : ℕ) (same : (k : ℕ) → p ≤ k → k < n → g k ≡ h k) where
-  pub found-next : (e : ℕ) → a ≤ p → n ≤ e → SomeOf g p n → SomeOf h a e
-  found-next e l m (k, x, y, z) = (k, omega arith, omega arith, λ w. z (same k x y ∙ w))
-
-  pub none-next : (SomeOf h a p → ⊥) → (SomeOf g p n → ⊥) → SomeOf h a n → ⊥
-  none-next before here = none-join h a p n before (λ s. here (s .0, s .1, s .2, λ w. s .3 (sym (same (s .0) (s .1) (s .2)) ∙ w)))
+-- a word that is 0 is not counted
+pub none-alike : (mask v x : ℕ) → 0 < v → x ≡ 0 → same (bitAnd x mask) v ≡ 0
+none-alike mask v x h z = same-no (bitAnd x mask) v (λ e. omega (arith, ap (λ (y : ℕ). bitAnd y mask) z))
 
 -- functions that agree from a on and from b on
-some-there : (g h : ℕ → ℕ) (a e b : ℕ) → ((i : ℕ) → i < e - a → g (a + i) ≡ h (b + i)) → SomeOf g a e → SomeOf h b (b + (e - a))
-some-there g h a e b same (k, p, q, n) =
-    let x : a + (k - a) ≡ k = omega arith in
-    (b + (k - a), omega arith, omega arith, λ z. n (ap g (sym x) ∙ same (k - a) (omega arith) ∙ z))
+over-there : (g h : ℕ → ℕ) (a b m n : ℕ) → ((i : ℕ) → i < m → g (a + i) ≡ h (b + i)) → Over g a (a + m) n → Over h b (b + m) n
+over-there g h a b m n agree x =
+    let e = sum-cong (λ i. g (a + i)) (λ i. h (b + i)) m agree in
+    record { adds = omega (arith, x .adds, e, sum-split g a m, sum-split h b m); few = omega (arith, x .few) }
 
-some-back : (g h : ℕ → ℕ) (a e b : ℕ) → ((i : ℕ) → i < e - a → g (a + i) ≡ h (b + i)) → SomeOf h b (b + (e - a)) → SomeOf g a e
-some-back g h a e b same (k, p, q, n) =
-    let x : b + (k - b) ≡ k = omega arith in
-    (a + (k - b), omega arith, omega arith, λ z. n (ap h (sym x) ∙ sym (same (k - b) (omega arith)) ∙ z))
+-- a part cut off where all that follows is 0
+over-cut : (g : ℕ → ℕ) (len f x a b n : ℕ) → ((k : ℕ) → len ≤ k → g k ≡ 0) → f ≤ x → a ≡ f - (f - len) → b ≡ x - (x - len) → Over g a b n → Over g f x n
+over-cut g len f x a b n past l from upto c = by-cases (decLe len f) outside inside
+  where
+    outside : len ≤ f → Over g f x n
+    outside h = let z : n ≡ 0 = omega (arith, c .few) in rw z (over-zero g f x l (λ k p q. past k (omega arith)))
 
--- a part of the words, cut off at their end
-module _ (ws : List ℕ) (f x a b : ℕ) (from : a ≡ f - (f - length ws)) (upto : b ≡ x - (x - length ws)) where
-  some-cut : SomeOf (word ws) f x → SomeOf (word ws) a b
-  some-cut (k, p, q, n) = let l = in-range ws k n in (k, omega arith, omega arith, n)
-
-  some-whole : SomeOf (word ws) a b → SomeOf (word ws) f x
-  some-whole (k, p, q, n) = let l = in-range ws k n in (k, omega arith, omega arith, n)
+    inside : (len ≤ f → ⊥) → Over g f x n
+    inside h =
+        let e : a ≡ f = omega arith in
+        let z : n ≡ n + 0 = omega arith in
+        rw (sym e, z) (over-join g a b x n 0 (omega arith) (omega arith) c (over-zero g b x (omega arith) (λ k p q. past k (omega arith))))
 
 -- ---- the pages of one block, where e is its entry
 
 -- an entry below that of table 0 names no table
-pub block-low : (ws : List ℕ) (e first end : ℕ) → e < 0x4000_0000 → SomeOf (entryUnder ws e) first end → ⊥
-block-low ws e first end l (k, p, q, n) = n (slot-none ws (slotIn e (k % 512)) (omega arith))
+pub block-low : (ws : List ℕ) (e first end mask v : ℕ) → 0 < v → first ≤ end → e < 0x4000_0000 → Over (alike mask v (entryUnder ws e)) first end 0
+block-low ws e first end mask v h l low =
+    over-zero (alike mask v (entryUnder ws e)) first end l (λ k p q. none-alike mask v (entryUnder ws e k) h (slot-none ws (slotIn e (k % 512)) (omega arith)))
 
 -- in the same block as the page first, the i-th page after it has the i-th slot after its slot
 page-slot : (e first i f : ℕ) → first % 512 + i < 512 → 0x4000_0000 ≤ e → f ≡ 512 * (e / 1024 - 0x10_0000) + first % 512
@@ -84,24 +62,33 @@ page-slot e first i f h big is =
     plain m j w u = omega arith
 
 -- their words are those from number f on
-module _ (ws : List ℕ) (e first end f a b : ℕ) (h : end ≤ 512 * (first / 512) + 512) (big : 0x4000_0000 ≤ e) (is : f ≡ 512 * (e / 1024 - 0x10_0000) + first % 512)
-    (from : a ≡ f - (f - length ws)) (upto : b ≡ f + (end - first) - (f + (end - first) - length ws)) where
-  page-word : (i : ℕ) → i < end - first → entryUnder ws e (first + i) ≡ word ws (f + i)
-  page-word i l = ap (slotWord ws) (page-slot e first i f (here first end i h l) big is) ∙ word-slot ws (f + i)
-    where
-      here : (first end i : ℕ) → end ≤ 512 * (first / 512) + 512 → i < end - first → first % 512 + i < 512
-      here first end i h l = omega arith
+pub block-words : (ws : List ℕ) (e first end f a b mask v n : ℕ) → 0 < v → first ≤ end → end ≤ 512 * (first / 512) + 512 → 0x4000_0000 ≤ e
+    → f ≡ 512 * (e / 1024 - 0x10_0000) + first % 512 → a ≡ f - (f - length ws) → b ≡ f + (end - first) - (f + (end - first) - length ws)
+    → Over (alike mask v (word ws)) a b n → Over (alike mask v (entryUnder ws e)) first end n
+block-words ws e first end f a b mask v n hv l h big is from upto c =
+    let z : first + (end - first) ≡ end = omega arith in
+    let past : (k : ℕ) → length ws ≤ k → alike mask v (word ws) k ≡ 0 = λ k q. none-alike mask v (word ws k) hv (List·getD-eq-default ws 0 q) in
+    let whole = over-cut (alike mask v (word ws)) (length ws) f (f + (end - first)) a b n past (omega arith) from upto c in
+    rw z at (over-there (alike mask v (word ws)) (alike mask v (entryUnder ws e)) f first (end - first) n (λ i q. ap (λ (x : ℕ). same (bitAnd x mask) v) (sym (page-word i q))) whole)
+  where
+    here : (i : ℕ) → i < end - first → first % 512 + i < 512
+    here i q = omega arith
 
-  pub to-words : SomeOf (entryUnder ws e) first end → SomeOf (word ws) a b
-  to-words s = some-cut ws f (f + (end - first)) a b from upto (some-there (entryUnder ws e) (word ws) first end f page-word s)
-
-  pub from-words : SomeOf (word ws) a b → SomeOf (entryUnder ws e) first end
-  from-words s = some-back (entryUnder ws e) (word ws) first end f page-word (some-whole ws f (f + (end - first)) a b from upto s)
+    page-word : (i : ℕ) → i < end - first → entryUnder ws e (first + i) ≡ word ws (f + i)
+    page-word i q = ap (slotWord ws) (page-slot e first i f (here i q) big is) ∙ word-slot ws (f + i)
 
 -- ---- the pages of one group, where top is the root's entry of it
 
-pub group-low : (ws : List ℕ) (top first end : ℕ) → top ≡ 0 → SomeOf (pageUnder ws top) first end → ⊥
-group-low ws top first end z (k, p, q, n) = n (under-none ws (entryUnder ws top (k / 512)) k (under-none ws top (k / 512) z))
+pub group-low : (ws : List ℕ) (top first end mask v : ℕ) → 0 < v → first ≤ end → top ≡ 0 → Over (alike mask v (pageUnder ws top)) first end 0
+group-low ws top first end mask v h l z =
+    over-zero (alike mask v (pageUnder ws top)) first end l
+    (λ k p q. none-alike mask v (pageUnder ws top k) h (under-none ws (entryUnder ws top (k / 512)) k (under-none ws top (k / 512) z)))
+
+-- a count of h from a up to p, gone on with to n by a function that agrees there
+pub over-next : (g h : ℕ → ℕ) (mask v a p n c d : ℕ) → a ≤ p → p ≤ n → ((k : ℕ) → p ≤ k → k < n → g k ≡ h k)
+    → Over (alike mask v h) a p c → Over (alike mask v g) p n d → Over (alike mask v h) a n (c + d)
+over-next g h mask v a p n c d l m agree x y =
+    over-join (alike mask v h) a p n c d l m x (over-same (alike mask v g) (alike mask v h) p n d m (λ k q r. ap (λ (z : ℕ). same (bitAnd z mask) v) (agree k q r)) y)
 
 -- those of the block of page p
 pub page-in-block : (ws : List ℕ) (top e p n : ℕ) → e ≡ entryUnder ws top (p / 512) → n ≤ 512 * (p / 512) + 512

@@ -1,5 +1,5 @@
 // From a root and a page to the page's level-0 word, and the calls that need no more: pgt_translate and as_satp, after
-// page_table.rs. Then what a judge asks of a range of pages: whether one is mapped, and how many tables are missing.
+// page_table.rs. Then what a judge asks of a range of pages: how many have certain bits, and how many tables are missing.
 mod exports;
 mod missing;
 mod ranges;
@@ -8,7 +8,7 @@ mod translate;
 
 pub use missing::lesser;
 pub use missing::missing_tables;
-pub use ranges::any_mapped;
+pub use ranges::count_pages;
 pub use steps::slot_in;
 pub use steps::slot_of;
 pub use steps::slot_word;

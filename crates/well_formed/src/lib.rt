@@ -9,7 +9,6 @@ mod scan;
 mod tables;
 mod words;
 
-pub use scan::zeros;
 use store::Answer;
 ghost use Prim.Native.Nat.{_*_};
 ghost use mathlib.Core.Path.{_≡_};

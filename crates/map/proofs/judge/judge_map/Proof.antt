@@ -2,7 +2,6 @@
 use mathlib.Core.Path.{sym, _∙_}
 use native.Mathlib.Omega.{arith}
 use borrow.Author.Needs.{needs}
-use Rattle.store.proofs.Tests.{yes, no}
 use Rattle.well_formed.proofs.Verdict.{judged-ok}
 use Rattle.walk.proofs.Calls.{root-in}
 use Rattle.map.proofs.ReasonLaws.{not-judged, no-3, no-numbers, nothing, no-14, no-17, all-ready}
@@ -43,13 +42,13 @@ returns-4 c =
     let p = c .before .page-range .ensures in
     nothing _ _ _ _ _ _ (g .0) (g .1) r o _ _ (p .from) (p .upto) (c .if4 .taken)
 
-any-mapped-requires : tie.Need-any-mapped-requires
-any-mapped-requires c κs =
+count-pages-requires : tie.Need-count-pages-requires
+count-pages-requires c κs =
     let g = judged-ok _ (c .before .before .before .before .before .before .before .judge-store .result) (c .before .before .before .before .before .before .before .judge-store .ensures) (c .before .before .before .before .before .before .if1 .left) in
     let r = sym (c .before .before .before .before .before .mark-at .ensures .0) ∙ c .before .before .before .before .if2 .left in
     let o = c .before .before .before .judge-numbers .ensures .ready (c .before .before .if3 .left) in
     let p = c .before .page-range .ensures in
-    (root-in _ _ (g .0) r, search needs, omega (arith, o .pages (omega arith), c .if4 .left))
+    (root-in _ _ (g .0) r, search needs, omega (arith, o .pages (omega arith), c .if4 .left), omega arith)
 
 returns-5 : tie.Need-returns-5
 returns-5 c =
@@ -57,7 +56,7 @@ returns-5 c =
     let r = sym (c .before .before .before .before .before .before .before .mark-at .ensures .0) ∙ c .before .before .before .before .before .before .if2 .left in
     let o = c .before .before .before .before .before .judge-numbers .ensures .ready (c .before .before .before .before .if3 .left) in
     let p = c .before .before .before .page-range .ensures in
-    no-14 _ _ _ _ _ _ (g .0) (g .1) r o _ _ (p .from) (p .upto) (c .before .before .if4 .left) (yes (c .before .any-mapped .result) (c .if5 .taken) (c .before .any-mapped .ensures))
+    no-14 _ _ _ _ _ _ (g .0) (g .1) r o _ _ (p .from) (p .upto) (c .before .before .if4 .left) _ (c .before .count-pages .ensures) (c .if5 .taken)
 
 count-free-requires : tie.Need-count-free-requires
 count-free-requires c κs = search needs
@@ -76,7 +75,7 @@ returns-6 c =
     let r = sym (c .before .before .before .before .before .before .before .before .before .before .mark-at .ensures .0) ∙ c .before .before .before .before .before .before .before .before .before .if2 .left in
     let o = c .before .before .before .before .before .before .before .before .judge-numbers .ensures .ready (c .before .before .before .before .before .before .before .if3 .left) in
     let p = c .before .before .before .before .before .before .page-range .ensures in
-    no-17 _ _ _ _ _ _ (g .0) (g .1) r o _ _ (p .from) (p .upto) (c .before .before .before .before .before .if4 .left) (no (c .before .before .before .before .any-mapped .result) (c .before .before .before .if5 .left) (c .before .before .before .before .any-mapped .ensures)) _ _
+    no-17 _ _ _ _ _ _ (g .0) (g .1) r o _ _ (p .from) (p .upto) (c .before .before .before .before .before .if4 .left) _ (c .before .before .before .before .count-pages .ensures) (c .before .before .before .if5 .left) _ _
     (c .before .before .count-free .ensures) (c .before .missing-tables .ensures) (c .if6 .taken)
 
 returns-7 : tie.Need-returns-7
@@ -85,7 +84,7 @@ returns-7 c =
     let r = sym (c .before .before .before .before .before .before .before .before .before .before .mark-at .ensures .0) ∙ c .before .before .before .before .before .before .before .before .before .if2 .left in
     let o = c .before .before .before .before .before .before .before .before .judge-numbers .ensures .ready (c .before .before .before .before .before .before .before .if3 .left) in
     let p = c .before .before .before .before .before .before .page-range .ensures in
-    all-ready _ _ _ _ _ _ (g .0) (g .1) r o _ _ (p .from) (p .upto) (c .before .before .before .before .before .if4 .left) (no (c .before .before .before .before .any-mapped .result) (c .before .before .before .if5 .left) (c .before .before .before .before .any-mapped .ensures)) _ _
+    all-ready _ _ _ _ _ _ (g .0) (g .1) r o _ _ (p .from) (p .upto) (c .before .before .before .before .before .if4 .left) _ (c .before .before .before .before .count-pages .ensures) (c .before .before .before .if5 .left) _ _
     (c .before .before .count-free .ensures) (c .before .missing-tables .ensures) (c .if6 .left)
 
 pub judge-map-spec : {M : Type 1} → statement M
@@ -100,7 +99,7 @@ judge-map-spec =
     returns-3
     page-range-requires
     returns-4
-    any-mapped-requires
+    count-pages-requires
     returns-5
     count-free-requires
     missing-tables-requires
