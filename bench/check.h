@@ -16,7 +16,7 @@ typedef struct {
 typedef reply check(const uint64_t *words, size_t nwords, const uint32_t *table_marks, size_t ntables,
                     const uint8_t *bytes, size_t nbytes, const uint32_t *frame_marks, size_t nframes);
 
-check ronakvesh_check; /* ours, from libwell_formed.a */
+check ronakvesh_check; /* ours, from libinterface.a */
 check check_c;         /* the same in C, check.c */
 check check_rust;      /* the same in Rust, check.rs */
 check once;            /* no check: reads the words and the marks once, once.c */

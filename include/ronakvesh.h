@@ -1,15 +1,18 @@
-/* Ronakvesh: page tables of RISC-V Sv39. The functions are written and proved in Rattle, and are linked from its archives.
+/* Ronakvesh: page tables of RISC-V Sv39. The functions are written and proved in Rattle, and are linked from libinterface.a.
  *
  * Addresses, entries and permissions are plain 64-bit numbers. A function that can refuse returns a ronakvesh_reply:
  * look at its number before its value. Every other function answers for each argument. The numbers given here are
  *   1  a store of the wrong sizes
  *   2  a store that is not well formed
  *   3  a root that is none
- *   6  a result that leaves 64 bits, a level above 2, or a page at or above 2^38
+ *   6  a result that leaves 64 bits, a level above 2, a page at or above 2^38, or a size above 2^38
  *   8  permissions above 1023
- *   9  a physical address at or above 2^56
+ *   9  a frame at or above 2^56
+ *  10  a frame of the held window, 0x1_0000_0000 up to 0x1_2000_0000, where the store itself lies
  *  11  a page that is not mapped
  *  12  a page that lacks U
+ *  14  a page that is mapped already
+ *  17  more tables needed than free
  * Where more than one applies, the smallest is given. */
 #ifndef RONAKVESH_H
 #define RONAKVESH_H
@@ -34,7 +37,7 @@ typedef struct {
     uint64_t end;
 } ronakvesh_pages;
 
-/* ---- libaddress.a: virtual addresses */
+/* ---- virtual addresses */
 
 /* The virtual address of this number, which is the number itself. */
 uint64_t ronakvesh_virtual_new(uint64_t number);
@@ -59,7 +62,7 @@ ronakvesh_reply ronakvesh_virtual_add(uint64_t first, uint64_t second);
 /* The first address less the second; 6 where the second is the higher. */
 ronakvesh_reply ronakvesh_virtual_sub(uint64_t first, uint64_t second);
 
-/* ---- libaddress.a: physical addresses */
+/* ---- physical addresses */
 
 /* The physical address of this number, which is the number itself. */
 uint64_t ronakvesh_physical_new(uint64_t number);
@@ -74,7 +77,7 @@ ronakvesh_reply ronakvesh_physical_add_page(uint64_t pa);
 /* pa + addr, a number of bytes; 6 where the sum is 2^64 or more. */
 ronakvesh_reply ronakvesh_physical_add_addr(uint64_t pa, uint64_t addr);
 
-/* ---- librounding.a: numbers of bytes and ranges of pages */
+/* ---- numbers of bytes and ranges of pages */
 
 /* The lowest multiple of 4096 that is not below addr; 6 where it is 2^64. */
 ronakvesh_reply ronakvesh_page_round_up(uint64_t addr);
@@ -84,7 +87,7 @@ uint64_t ronakvesh_page_round_down(uint64_t addr);
  * the whole sum, of 65 bits; never refused. */
 ronakvesh_pages ronakvesh_page_range(uint64_t va, uint64_t size);
 
-/* ---- libpage_table_entry.a: entries
+/* ---- entries
  * Bits 0 to 9 of an entry are its flags: V R W X U G A D and two software bits. Bits 10 to 53 are its frame number. */
 
 /* The entry of this number, which is the number itself. */
@@ -124,30 +127,30 @@ ronakvesh_reply ronakvesh_entry_write_perm(uint64_t pa, uint64_t perm);
  * pointer that is aligned and not null, and the number of its elements; the four do not overlap. Their sizes are right where
  * there are 1 to 512 table marks and 1 to 4096 frame marks, and exactly as many words and bytes as these ask for. */
 
-/* libstore.a: writes zeros to all four slices; 1 where the sizes are wrong, and then nothing is written. */
+/* Writes zeros to all four slices; 1 where the sizes are wrong, and then nothing is written. */
 ronakvesh_reply ronakvesh_set_up(uint64_t *words, size_t word_count, uint32_t *table_marks, size_t tables,
                                  uint8_t *bytes, size_t byte_count, uint32_t *frame_marks, size_t frames);
 
-/* libwell_formed.a: the value is 1 where the store is well formed and 0 where it is not; 1 where the sizes are wrong. */
+/* The value is 1 where the store is well formed and 0 where it is not; 1 where the sizes are wrong. */
 ronakvesh_reply ronakvesh_check(const uint64_t *words, size_t word_count, const uint32_t *table_marks, size_t tables,
                                 const uint8_t *bytes, size_t byte_count, const uint32_t *frame_marks, size_t frames);
 
-/* libwalk.a: the address of the frame that the page of va resolves to in a root, without the offset; 1, 2, 3, 6, 11, 12. */
+/* The address of the frame that the page of va resolves to in a root, without the offset; 1, 2, 3, 6, 11, 12. */
 ronakvesh_reply ronakvesh_pgt_translate(const uint64_t *words, size_t word_count, const uint32_t *table_marks, size_t tables,
                                         const uint8_t *bytes, size_t byte_count, const uint32_t *frame_marks,
                                         size_t frames, uint64_t root, uint64_t va);
 
-/* libwalk.a: the number that the satp register takes for a root; 1, 2, 3. */
+/* The number that the satp register takes for a root; 1, 2, 3. */
 ronakvesh_reply ronakvesh_as_satp(const uint64_t *words, size_t word_count, const uint32_t *table_marks, size_t tables,
                                   const uint8_t *bytes, size_t byte_count, const uint32_t *frame_marks, size_t frames,
                                   uint64_t root);
 
-/* libmap.a: makes the lowest free table a root without pages; the value is its number. 1, 2, 17. */
+/* Makes the lowest free table a root without pages; the value is its number. 1, 2, 17. */
 ronakvesh_reply ronakvesh_uvmcreate(const uint64_t *words, size_t word_count, uint32_t *table_marks, size_t tables,
                                     const uint8_t *bytes, size_t byte_count, const uint32_t *frame_marks,
                                     size_t frames);
 
-/* libmap.a: maps the pages that size bytes from va on lie in to the frames from pa on, with perm and V, in a root; the value is
+/* Maps the pages that size bytes from va on lie in to the frames from pa on, with perm and V, in a root; the value is
  * how many tables it took. 1, 2, 3, 6, 8, 9, 10, 14, 17, and then nothing is written. */
 ronakvesh_reply ronakvesh_map(uint64_t *words, size_t word_count, uint32_t *table_marks, size_t tables,
                               const uint8_t *bytes, size_t byte_count, const uint32_t *frame_marks, size_t frames,

@@ -1,5 +1,5 @@
 //! Lays the files of the Rust and the shims beside each other in one tree of symbolic links,
-//! so that the Rust is compiled as it stands, and tells the linker where the archives are.
+//! so that the Rust is compiled as it stands, and tells the linker where the archive is.
 //! Without the feature `rust` only the latter.
 
 use std::os::unix::fs::symlink;
@@ -7,15 +7,7 @@ use std::path::{Path, PathBuf};
 use std::{env, fs};
 
 const RUST_FILES: &str = "rust-files.txt";
-const ARCHIVES: [&str; 7] = [
-    "libaddress.a",
-    "librounding.a",
-    "libpage_table_entry.a",
-    "libstore.a",
-    "libwell_formed.a",
-    "libwalk.a",
-    "libmap.a",
-];
+const ARCHIVE: &str = "libinterface.a";
 
 fn main() {
     if env::var_os("CARGO_FEATURE_RUST").is_some() {
@@ -24,9 +16,7 @@ fn main() {
     let archives = given_folder("RONAKVESH_ARCHIVES");
     println!("cargo:rerun-if-changed=build.rs");
     println!("cargo:rustc-link-search=native={}", archives.display());
-    for archive in ARCHIVES {
-        println!("cargo:rerun-if-changed={}", archives.join(archive).display());
-    }
+    println!("cargo:rerun-if-changed={}", archives.join(ARCHIVE).display());
 }
 
 /// Lays out the tree in which the Rust is compiled.

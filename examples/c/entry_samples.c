@@ -1,4 +1,4 @@
-/* Prints sample entries, computed by libpage_table_entry.a. */
+/* Prints sample entries. */
 #include <inttypes.h>
 #include <stdio.h>
 

@@ -1,5 +1,4 @@
-/* A store of a few tables is set up, a root made, pages mapped and found again, by libstore.a, libwell_formed.a, libwalk.a and
- * libmap.a. */
+/* A store of a few tables is set up, a root made, pages mapped and found again. */
 #include <inttypes.h>
 #include <stdio.h>
 #include <string.h>

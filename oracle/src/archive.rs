@@ -1,4 +1,4 @@
-//! The proved functions, as their archives export them. The helpers take numbers only, so every call of them is safe.
+//! The proved functions, as libinterface.a exports them. The helpers take numbers only, so every call of them is safe.
 
 /// Number 0 and the value, or a refusal's number and value 0.
 #[repr(C)]
@@ -19,7 +19,7 @@ pub struct PageRange {
     pub end: u64,
 }
 
-#[link(name = "address", kind = "static")]
+#[link(name = "interface", kind = "static")]
 unsafe extern "C" {
     pub safe fn ronakvesh_virtual_new(address: u64) -> u64;
     pub safe fn ronakvesh_virtual_is_page_aligned(va: u64) -> Truth;
@@ -38,17 +38,11 @@ unsafe extern "C" {
     pub safe fn ronakvesh_physical_pg_round_down(pa: u64) -> u64;
     pub safe fn ronakvesh_physical_add_page(pa: u64) -> Reply;
     pub safe fn ronakvesh_physical_add_addr(pa: u64, number: u64) -> Reply;
-}
 
-#[link(name = "rounding", kind = "static")]
-unsafe extern "C" {
     pub safe fn ronakvesh_page_round_up(address: u64) -> Reply;
     pub safe fn ronakvesh_page_round_down(address: u64) -> u64;
     pub safe fn ronakvesh_page_range(va: u64, size: u64) -> PageRange;
-}
 
-#[link(name = "page_table_entry", kind = "static")]
-unsafe extern "C" {
     pub safe fn ronakvesh_entry_new(word: u64) -> u64;
     pub safe fn ronakvesh_entry_is_valid(entry: u64) -> Truth;
     pub safe fn ronakvesh_entry_is_user(entry: u64) -> Truth;
@@ -68,7 +62,7 @@ unsafe extern "C" {
 
 // A lent slice is a pointer to its first element, then how many elements it has. No two of them may overlap.
 
-#[link(name = "store", kind = "static")]
+#[link(name = "interface", kind = "static")]
 unsafe extern "C" {
     pub fn ronakvesh_set_up(
         words: *mut u64,
@@ -80,10 +74,7 @@ unsafe extern "C" {
         frame_marks: *mut u32,
         frame_marks_length: usize,
     ) -> Reply;
-}
 
-#[link(name = "well_formed", kind = "static")]
-unsafe extern "C" {
     pub fn ronakvesh_check(
         words: *const u64,
         words_length: usize,
@@ -94,10 +85,7 @@ unsafe extern "C" {
         frame_marks: *const u32,
         frame_marks_length: usize,
     ) -> Reply;
-}
 
-#[link(name = "walk", kind = "static")]
-unsafe extern "C" {
     pub fn ronakvesh_pgt_translate(
         words: *const u64,
         words_length: usize,
@@ -122,10 +110,7 @@ unsafe extern "C" {
         frame_marks_length: usize,
         root: u64,
     ) -> Reply;
-}
 
-#[link(name = "map", kind = "static")]
-unsafe extern "C" {
     pub fn ronakvesh_map(
         words: *mut u64,
         words_length: usize,

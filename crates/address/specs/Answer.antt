@@ -3,9 +3,7 @@ use mathlib.Core.List.{List, [], _∷_}
 use mathlib.Core.Bool.{Bool, true, false}
 use Prim.Native.Nat.{ℕ, _-_, _^_}
 use lib.Dec.{ltb, leb}
-use lib.ListN.{getD}
 use Rattle.address.specs.Page.{index}
-use Rattle.address.specs.declared.Reply.{Reply}
 use Rattle.address.specs.declared.VirtualAnswer.{VirtualAnswer}
 use Rattle.address.specs.declared.VirtualAnswer.the-variants as virtual
 use Rattle.address.specs.declared.PhysicalAnswer.{PhysicalAnswer}
@@ -51,7 +49,3 @@ virtualSaid (virtual.Refused n) = refused n
 unfoldable pub physicalSaid : PhysicalAnswer → Said
 physicalSaid (physical.At a) = answered (a .0)
 physicalSaid (physical.Refused n) = refused n
-
--- the same for C: the number, and the value or 0
-unfoldable pub replyOf : Said → Reply
-replyOf s = record { number = s .number; value = getD (s .values) 0 0 }

@@ -1,9 +1,7 @@
 // Virtual and physical addresses, after address.rs.
 // A helper whose result leaves 64 bits, and a level above 2, is refused with 6.
-mod exports;
 mod numbers;
 
-pub use exports::number_reply;
 pub use numbers::round_down;
 pub use numbers::round_up;
 ghost use mathlib.Core.Path.{_≡_};
@@ -39,13 +37,6 @@ pub enum VirtualAnswer {
 pub enum PhysicalAnswer {
     At(PhysicalAddress),
     Refused(u64),
-}
-
-// An answer as C reads it: number 0 and the value, or the number of the refusal and 0.
-#[repr(C)]
-pub struct Reply {
-    pub number: u64,
-    pub value: u64,
 }
 
 fn virtual_of(n: NumberAnswer) -> VirtualAnswer

@@ -3,12 +3,11 @@ use mathlib.Core.Path.{_≡_}
 use mathlib.Core.Logic.{_⊎_}
 use Prim.Native.Nat.{ℕ, suc, _^_, _<_}
 use lib.ListN.{set}
-use Rattle.address.specs.declared.Reply.{Reply}
 use Rattle.store.specs.Store.{Store, Sized, mark}
 use Rattle.store.specs.WellFormed.{WellFormed}
 use Rattle.store.specs.Count.{lowest, freeTables}
 use Rattle.store.specs.Walk.{resolve}
-use Rattle.store.specs.Outcome.{Outcome, Replied}
+use Rattle.store.specs.Outcome.{Outcome}
 use Rattle.store.specs.declared.Answer.{Answer}
 
 pub data CreateReason (s : Store) : ℕ → Type 0 where
@@ -26,9 +25,6 @@ CreateDone s v s′ = (v ≡ lowest (s .tmarks)) × (s′ ≡ rooted s (lowest (
 
 abbrev pub Create : Store → Answer → Store → Type 0
 Create s r s′ = Outcome (CreateReason s) (CreateDone s) s r s′
-
-abbrev pub CreateReply : Store → Reply → Store → Type 0
-CreateReply s r s′ = Replied (λ (a : Answer). Create s a s′) r
 
 -- root t of s′ is new and has no page; the roots of s and their pages are as they were
 pub record Created (s : Store) (t : ℕ) (s′ : Store) : Type 0 where

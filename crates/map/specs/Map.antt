@@ -1,11 +1,10 @@
 -- `map`: what it answers, and the store afterwards.
 use mathlib.Core.Path.{_≡_}
 use Prim.Native.Nat.{ℕ}
-use Rattle.address.specs.declared.Reply.{Reply}
 use Rattle.page_table_entry.specs.Built.{entryOf}
 use Rattle.rounding.specs.Range.{firstPage}
 use Rattle.store.specs.Store.{Store}
-use Rattle.store.specs.Outcome.{Outcome, Replied}
+use Rattle.store.specs.Outcome.{Outcome}
 use Rattle.store.specs.declared.Answer.{Answer}
 use Rattle.walk.specs.Missing.{missing}
 use Rattle.map.specs.Numbers.{pagesOf}
@@ -19,6 +18,3 @@ MapDone s root va pa size perm v s′ =
 
 abbrev pub Map : Store → ℕ → ℕ → ℕ → ℕ → ℕ → Answer → Store → Type 0
 Map s root va pa size perm r s′ = Outcome (MapReason s root va pa size perm) (MapDone s root va pa size perm) s r s′
-
-abbrev pub MapReply : Store → ℕ → ℕ → ℕ → ℕ → ℕ → Reply → Store → Type 0
-MapReply s root va pa size perm r s′ = Replied (λ (a : Answer). Map s root va pa size perm a s′) r

@@ -1,7 +1,6 @@
 // Mapping a range of pages, after `map` of page_table.rs: judged whole before the first write. And the making of a root.
 mod create;
 mod enter;
-mod exports;
 mod judge;
 mod mapping;
 

@@ -1,7 +1,5 @@
 // Page-table entries, after page_table_entry.rs.
 // An entry is built only from permissions up to 1023, else 8, and from a frame below 2^56, else 9.
-mod exports;
-
 use address::PhysicalAddress;
 ghost use mathlib.Core.Path.{_≡_};
 ghost use Rattle.page_table_entry.specs.Layout.{bitV, bitR, bitW, bitX, bitU, has, leaf, flags, frameOf};

@@ -1,6 +1,4 @@
 // Rounding to pages, after mapping/mod.rs, and the pages that a range of bytes covers.
-mod exports;
-
 use address::NumberAnswer;
 use address::PGSIZE;
 use address::VirtualAddress;

@@ -1,8 +1,7 @@
 -- How a call answers: with the smallest reason that applies and the store as it was, or with none applying and the work done.
 use mathlib.Core.Path.{_≡_}
 use Prim.Native.Nat.{ℕ, _<_}
-use Rattle.address.specs.Answer.{Said, answered, refused, replyOf}
-use Rattle.address.specs.declared.Reply.{Reply}
+use Rattle.address.specs.Answer.{Said, answered, refused}
 use Rattle.store.specs.Store.{Store}
 use Rattle.store.specs.declared.Answer.{Answer}
 use Rattle.store.specs.declared.Answer.the-variants.{Refused, Done}
@@ -11,12 +10,6 @@ use Rattle.store.specs.declared.Answer.the-variants.{Refused, Done}
 unfoldable pub answerSaid : Answer → Said
 answerSaid (Done v) = answered v
 answerSaid (Refused n) = refused n
-
--- the same for C: the reply is that of an answer of which P holds
-pub record Replied (P : Answer → Type 0) (r : Reply) : Type 0 where
-  pub answer : Answer
-  pub holds : P answer
-  pub says : r ≡ replyOf (answerSaid answer)
 
 -- reason n applies, and no smaller one
 pub record Smallest (R : ℕ → Type 0) (n : ℕ) : Type 0 where

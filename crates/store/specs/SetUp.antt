@@ -2,9 +2,8 @@
 use mathlib.Core.Path.{_≡_}
 use Prim.Native.Nat.{ℕ}
 use lib.ListN.{length, replicate}
-use Rattle.address.specs.declared.Reply.{Reply}
 use Rattle.store.specs.Store.{Store, Sized}
-use Rattle.store.specs.Outcome.{Outcome, Replied}
+use Rattle.store.specs.Outcome.{Outcome}
 use Rattle.store.specs.declared.Answer.{Answer}
 
 pub data SetUpReason (s : Store) : ℕ → Type 0 where
@@ -26,6 +25,3 @@ SetUpDone s v s′ = (v ≡ 0) × (s′ ≡ fresh s)
 
 abbrev pub SetUp : Store → Answer → Store → Type 0
 SetUp s r s′ = Outcome (SetUpReason s) (SetUpDone s) s r s′
-
-abbrev pub SetUpReply : Store → Reply → Store → Type 0
-SetUpReply s r s′ = Replied (λ (a : Answer). SetUp s a s′) r

@@ -1,10 +1,8 @@
 // The store that every call works on: four lent slices in place of the kernel's boxes and raw pages.
 // Its sizes, marks and levels, the lowest free table or frame, how many are free, and set-up.
-mod exports;
 mod fill;
 mod marks;
 
-pub use exports::answer_reply;
 pub use marks::count_free;
 pub use marks::level_of;
 pub use marks::lowest_free;

@@ -1,10 +1,9 @@
 -- `as_satp`: the number that the satp register takes for a root. It changes nothing.
 use mathlib.Core.Path.{_≡_}
 use Prim.Native.Nat.{ℕ}
-use Rattle.address.specs.declared.Reply.{Reply}
 use Rattle.store.specs.Store.{Store, Sized, mark}
 use Rattle.store.specs.WellFormed.{WellFormed}
-use Rattle.store.specs.Outcome.{Outcome, Replied}
+use Rattle.store.specs.Outcome.{Outcome}
 use Rattle.store.specs.declared.Answer.{Answer}
 use Rattle.walk.specs.Sv39.{satpOf}
 
@@ -18,6 +17,3 @@ SatpDone s root v s′ = (v ≡ satpOf root) × (s′ ≡ s)
 
 abbrev pub Satp : Store → ℕ → Answer → Type 0
 Satp s root r = Outcome (SatpReason s root) (SatpDone s root) s r s
-
-abbrev pub SatpReply : Store → ℕ → Reply → Type 0
-SatpReply s root r = Replied (Satp s root) r

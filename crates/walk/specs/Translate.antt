@@ -2,12 +2,11 @@
 use mathlib.Core.Path.{_≡_}
 use Prim.Native.Nat.{ℕ, _/_, _^_, _≤_}
 use Rattle.address.specs.Field.{bit}
-use Rattle.address.specs.declared.Reply.{Reply}
 use Rattle.page_table_entry.specs.Layout.{bitU, frameOf}
 use Rattle.store.specs.Store.{Store, Sized, mark}
 use Rattle.store.specs.WellFormed.{WellFormed}
 use Rattle.store.specs.Walk.{resolve}
-use Rattle.store.specs.Outcome.{Outcome, Replied}
+use Rattle.store.specs.Outcome.{Outcome}
 use Rattle.store.specs.declared.Answer.{Answer}
 use Rattle.walk.specs.Mapped.{Mapped}
 
@@ -26,6 +25,3 @@ TranslateDone s root va v s′ = (v ≡ frameOf (resolve s root (va / 4096))) ×
 
 abbrev pub Translate : Store → ℕ → ℕ → Answer → Type 0
 Translate s root va r = Outcome (TranslateReason s root va) (TranslateDone s root va) s r s
-
-abbrev pub TranslateReply : Store → ℕ → ℕ → Reply → Type 0
-TranslateReply s root va r = Replied (Translate s root va) r

@@ -1,6 +1,5 @@
 // From a root and a page to the page's level-0 word, and the calls that need no more: pgt_translate and as_satp, after
 // page_table.rs. Then what a judge asks of a range of pages: how many have certain bits, and how many tables are missing.
-mod exports;
 mod missing;
 mod ranges;
 mod steps;

@@ -2,10 +2,9 @@
 use mathlib.Core.Path.{_≡_}
 use mathlib.Core.Logic.{_⊎_}
 use Prim.Native.Nat.{ℕ}
-use Rattle.address.specs.declared.Reply.{Reply}
 use Rattle.store.specs.Store.{Store, Sized}
 use Rattle.store.specs.WellFormed.{WellFormed}
-use Rattle.store.specs.Outcome.{Outcome, Replied}
+use Rattle.store.specs.Outcome.{Outcome}
 use Rattle.store.specs.declared.Answer.{Answer}
 
 pub data CheckReason (s : Store) : ℕ → Type 0 where
@@ -20,9 +19,6 @@ CheckDone s v s′ = YesNo v (WellFormed s) × (s′ ≡ s)
 
 abbrev pub Check : Store → Answer → Type 0
 Check s r = Outcome (CheckReason s) (CheckDone s) s r s
-
-abbrev pub CheckReply : Store → Reply → Type 0
-CheckReply s r = Replied (Check s) r
 
 -- what every call on a store asks first: the number 1 or 2 by which it is refused, or 0
 abbrev pub Judged : Store → ℕ → Type 0

@@ -1,7 +1,0 @@
--- `address::exports::ronakvesh_virtual_add` meets its contract: what its two callees ensure, joined. Assumes nothing.
-use borrow.Author.Needs.{needs}
-use Rattle.address.proofs.exports.ronakvesh_virtual_add.Statement.{statement}
-use Rattle.address.proofs.exports.ronakvesh_virtual_add.Tie as tie
-
-pub ronakvesh-virtual-add-spec : {M : Type 1} → statement M
-ronakvesh-virtual-add-spec = tie.close (tie.spec (λ c κs. search needs) (λ c κs. search needs) (λ c. cc))

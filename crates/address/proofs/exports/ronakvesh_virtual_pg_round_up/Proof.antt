@@ -1,7 +1,0 @@
--- `address::exports::ronakvesh_virtual_pg_round_up` meets its contract: what its two callees ensure, joined. Assumes nothing.
-use borrow.Author.Needs.{needs}
-use Rattle.address.proofs.exports.ronakvesh_virtual_pg_round_up.Statement.{statement}
-use Rattle.address.proofs.exports.ronakvesh_virtual_pg_round_up.Tie as tie
-
-pub ronakvesh-virtual-pg-round-up-spec : {M : Type 1} → statement M
-ronakvesh-virtual-pg-round-up-spec = tie.close (tie.spec (λ c κs. search needs) (λ c κs. search needs) (λ c. cc))

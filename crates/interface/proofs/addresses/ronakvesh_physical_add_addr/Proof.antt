@@ -1,0 +1,7 @@
+-- `interface::addresses::ronakvesh_physical_add_addr` meets its contract: what its two callees ensure, joined. Assumes nothing.
+use borrow.Author.Needs.{needs}
+use Rattle.interface.proofs.addresses.ronakvesh_physical_add_addr.Statement.{statement}
+use Rattle.interface.proofs.addresses.ronakvesh_physical_add_addr.Tie as tie
+
+pub ronakvesh-physical-add-addr-spec : {M : Type 1} → statement M
+ronakvesh-physical-add-addr-spec = tie.close (tie.spec (λ c κs. search needs) (λ c κs. search needs) (λ c. cc))

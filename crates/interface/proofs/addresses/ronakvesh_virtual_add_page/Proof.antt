@@ -1,0 +1,7 @@
+-- `interface::addresses::ronakvesh_virtual_add_page` meets its contract: what its two callees ensure, joined. Assumes nothing.
+use borrow.Author.Needs.{needs}
+use Rattle.interface.proofs.addresses.ronakvesh_virtual_add_page.Statement.{statement}
+use Rattle.interface.proofs.addresses.ronakvesh_virtual_add_page.Tie as tie
+
+pub ronakvesh-virtual-add-page-spec : {M : Type 1} → statement M
+ronakvesh-virtual-add-page-spec = tie.close (tie.spec (λ c κs. search needs) (λ c κs. search needs) (λ c. cc))

@@ -1,0 +1,7 @@
+-- `interface::pages::ronakvesh_page_round_up` meets its contract: what its two callees ensure, joined. Assumes nothing.
+use borrow.Author.Needs.{needs}
+use Rattle.interface.proofs.pages.ronakvesh_page_round_up.Statement.{statement}
+use Rattle.interface.proofs.pages.ronakvesh_page_round_up.Tie as tie
+
+pub ronakvesh-page-round-up-spec : {M : Type 1} → statement M
+ronakvesh-page-round-up-spec = tie.close (tie.spec (λ c κs. search needs) (λ c κs. search needs) (λ c. cc))

@@ -1,0 +1,30 @@
+-- The promise of each call, said of its reply.
+use Prim.Native.Nat.{ℕ}
+use Rattle.store.specs.Store.{Store}
+use Rattle.store.specs.SetUp.{SetUp}
+use Rattle.store.specs.declared.Answer.{Answer}
+use Rattle.well_formed.specs.Check.{Check}
+use Rattle.walk.specs.Translate.{Translate}
+use Rattle.walk.specs.Satp.{Satp}
+use Rattle.map.specs.Create.{Create}
+use Rattle.map.specs.Map.{Map}
+use Rattle.interface.specs.Reply.{Replied}
+use Rattle.interface.specs.declared.Reply.{Reply}
+
+abbrev pub SetUpReply : Store → Reply → Store → Type 0
+SetUpReply s r s′ = Replied (λ (a : Answer). SetUp s a s′) r
+
+abbrev pub CheckReply : Store → Reply → Type 0
+CheckReply s r = Replied (Check s) r
+
+abbrev pub TranslateReply : Store → ℕ → ℕ → Reply → Type 0
+TranslateReply s root va r = Replied (Translate s root va) r
+
+abbrev pub SatpReply : Store → ℕ → Reply → Type 0
+SatpReply s root r = Replied (Satp s root) r
+
+abbrev pub CreateReply : Store → Reply → Store → Type 0
+CreateReply s r s′ = Replied (λ (a : Answer). Create s a s′) r
+
+abbrev pub MapReply : Store → ℕ → ℕ → ℕ → ℕ → ℕ → Reply → Store → Type 0
+MapReply s root va pa size perm r s′ = Replied (λ (a : Answer). Map s root va pa size perm a s′) r

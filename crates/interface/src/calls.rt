@@ -1,0 +1,103 @@
+// The calls on a store, which is four lent slices: an address is a number, and an answer is a reply.
+use super::Reply;
+use super::replies::answer_reply;
+use address::PhysicalAddress;
+use address::VirtualAddress;
+ghost use Rattle.store.specs.Store.{storeOf};
+ghost use Rattle.interface.specs.Calls.{SetUpReply, CheckReply, TranslateReply, SatpReply, CreateReply, MapReply};
+
+#[no_mangle]
+pub extern "C" fn ronakvesh_set_up(
+    words: &mut [u64],
+    tmarks: &mut [u32],
+    bytes: &mut [u8],
+    fmarks: &mut [u32],
+) -> Reply
+    ensures { λ r. ⌜ SetUpReply
+        (storeOf (now (words .entry)) (now (tmarks .entry)) (now (bytes .entry)) (now (fmarks .entry))) r
+        (storeOf (now (words .exit)) (now (tmarks .exit)) (now (bytes .exit)) (now (fmarks .exit))) ⌝ }
+{
+    answer_reply(store::set_up(words, tmarks, bytes, fmarks))
+}
+
+#[no_mangle]
+pub extern "C" fn ronakvesh_check(
+    words: &[u64],
+    tmarks: &[u32],
+    bytes: &[u8],
+    fmarks: &[u32],
+) -> Reply
+    ensures { λ r. ⌜ CheckReply (storeOf (now (words .entry)) (now (tmarks .entry)) (now (bytes .entry)) (now (fmarks .entry))) r ⌝ }
+{
+    answer_reply(well_formed::check(words, tmarks, bytes, fmarks))
+}
+
+#[no_mangle]
+pub extern "C" fn ronakvesh_pgt_translate(
+    words: &[u64],
+    tmarks: &[u32],
+    bytes: &[u8],
+    fmarks: &[u32],
+    root: u64,
+    va: u64,
+) -> Reply
+    ensures { λ r. ⌜ TranslateReply (storeOf (now (words .entry)) (now (tmarks .entry)) (now (bytes .entry)) (now (fmarks .entry))) root va r ⌝ }
+{
+    answer_reply(walk::pgt_translate(words, tmarks, bytes, fmarks, root, VirtualAddress(va)))
+}
+
+#[no_mangle]
+pub extern "C" fn ronakvesh_as_satp(
+    words: &[u64],
+    tmarks: &[u32],
+    bytes: &[u8],
+    fmarks: &[u32],
+    root: u64,
+) -> Reply
+    ensures { λ r. ⌜ SatpReply (storeOf (now (words .entry)) (now (tmarks .entry)) (now (bytes .entry)) (now (fmarks .entry))) root r ⌝ }
+{
+    answer_reply(walk::as_satp(words, tmarks, bytes, fmarks, root))
+}
+
+#[no_mangle]
+pub extern "C" fn ronakvesh_uvmcreate(
+    words: &[u64],
+    tmarks: &mut [u32],
+    bytes: &[u8],
+    fmarks: &[u32],
+) -> Reply
+    ensures { λ r. ⌜ CreateReply
+        (storeOf (now (words .entry)) (now (tmarks .entry)) (now (bytes .entry)) (now (fmarks .entry))) r
+        (storeOf (now (words .entry)) (now (tmarks .exit)) (now (bytes .entry)) (now (fmarks .entry))) ⌝ }
+{
+    answer_reply(map::uvmcreate(words, tmarks, bytes, fmarks))
+}
+
+#[no_mangle]
+pub extern "C" fn ronakvesh_map(
+    words: &mut [u64],
+    tmarks: &mut [u32],
+    bytes: &[u8],
+    fmarks: &[u32],
+    root: u64,
+    va: u64,
+    pa: u64,
+    size: u64,
+    perm: u64,
+) -> Reply
+    ensures { λ r. ⌜ MapReply
+        (storeOf (now (words .entry)) (now (tmarks .entry)) (now (bytes .entry)) (now (fmarks .entry))) root va pa size perm r
+        (storeOf (now (words .exit)) (now (tmarks .exit)) (now (bytes .entry)) (now (fmarks .entry))) ⌝ }
+{
+    answer_reply(map::map(
+        words,
+        tmarks,
+        bytes,
+        fmarks,
+        root,
+        VirtualAddress(va),
+        PhysicalAddress(pa),
+        size,
+        perm,
+    ))
+}
