@@ -1,0 +1,226 @@
+//! A store and the calls on it.
+
+use crate::archive;
+use crate::{PhysicalAddress, Refusal, VirtualAddress};
+
+/// A store of page tables: four slices that the caller lends.
+///
+/// T is the number of table marks, 1 to 512, and F the number of frame marks, 1 to 4,096. The words are then 512 T and the
+/// bytes 4,096 F. Table t lies at the physical address 0x1_0000_0000 + 4096 t, frame f at 0x1_1000_0000 + 4096 f.
+///
+/// Any contents are allowed, since every call but [`set_up`](Store::set_up) checks the whole store first. So the fields are
+/// open to the caller, between two calls as well.
+#[derive(Debug)]
+pub struct Store<'a> {
+    /// The table words, 512 a table.
+    pub words: &'a mut [u64],
+    /// The table marks, one a table.
+    pub tmarks: &'a mut [u32],
+    /// The frame bytes, 4,096 a frame.
+    pub bytes: &'a mut [u8],
+    /// The frame marks, one a frame.
+    pub fmarks: &'a mut [u32],
+}
+
+// The pointers and lengths below are those of four slices that are borrowed for the call. So they are aligned, not null
+// and apart, and what is handed over as writable is borrowed as such: that is all that the archive asks of a caller.
+impl Store<'_> {
+    /// Writes zeros to all four slices: every table and every frame is free, and the store is well formed.
+    ///
+    /// Refuses with [`Sizes`](Refusal::Sizes).
+    ///
+    /// ```
+    /// # use ronakvesh::{Refusal, Store};
+    /// let (mut words, mut tmarks, mut bytes, mut fmarks) = ([7; 512 * 2], [7; 2], [7; 4096], [7; 1]);
+    /// let mut store = Store { words: &mut words, tmarks: &mut tmarks, bytes: &mut bytes, fmarks: &mut fmarks };
+    /// assert_eq!(store.set_up(), Ok(()));
+    /// assert!(words.iter().all(|word| *word == 0));
+    ///
+    /// let mut store = Store { words: &mut words[1..], tmarks: &mut tmarks, bytes: &mut bytes, fmarks: &mut fmarks };
+    /// assert_eq!(store.set_up(), Err(Refusal::Sizes));
+    /// ```
+    pub fn set_up(&mut self) -> Result<(), Refusal> {
+        let reply = unsafe {
+            archive::ronakvesh_set_up(
+                self.words.as_mut_ptr(),
+                self.words.len(),
+                self.tmarks.as_mut_ptr(),
+                self.tmarks.len(),
+                self.bytes.as_mut_ptr(),
+                self.bytes.len(),
+                self.fmarks.as_mut_ptr(),
+                self.fmarks.len(),
+            )
+        };
+        reply.result().map(|_| ())
+    }
+
+    /// Whether the store is well formed: yes exactly where W1 to W5 of document 01 hold.
+    ///
+    /// Refuses with [`Sizes`](Refusal::Sizes).
+    ///
+    /// ```
+    /// # use ronakvesh::Store;
+    /// # let (mut words, mut tmarks, mut bytes, mut fmarks) = ([0; 512 * 2], [0; 2], [0; 4096], [0; 1]);
+    /// # let mut store = Store { words: &mut words, tmarks: &mut tmarks, bytes: &mut bytes, fmarks: &mut fmarks };
+    /// store.set_up()?;
+    /// assert_eq!(store.check(), Ok(true));
+    /// store.words[0] = 1;
+    /// assert_eq!(store.check(), Ok(false));
+    /// # Ok::<(), ronakvesh::Refusal>(())
+    /// ```
+    pub fn check(&self) -> Result<bool, Refusal> {
+        let reply = unsafe {
+            archive::ronakvesh_check(
+                self.words.as_ptr(),
+                self.words.len(),
+                self.tmarks.as_ptr(),
+                self.tmarks.len(),
+                self.bytes.as_ptr(),
+                self.bytes.len(),
+                self.fmarks.as_ptr(),
+                self.fmarks.len(),
+            )
+        };
+        reply.result().map(|yes| yes != 0)
+    }
+
+    /// Makes the lowest free table a root without pages, and answers its number.
+    ///
+    /// Refuses with [`Sizes`](Refusal::Sizes), [`NotWellFormed`](Refusal::NotWellFormed),
+    /// [`TooFewTables`](Refusal::TooFewTables).
+    ///
+    /// ```
+    /// # use ronakvesh::{Refusal, Store};
+    /// # let (mut words, mut tmarks, mut bytes, mut fmarks) = ([0; 512 * 2], [0; 2], [0; 4096], [0; 1]);
+    /// # let mut store = Store { words: &mut words, tmarks: &mut tmarks, bytes: &mut bytes, fmarks: &mut fmarks };
+    /// // a fresh store of two tables
+    /// assert_eq!(store.uvmcreate(), Ok(0));
+    /// assert_eq!(store.uvmcreate(), Ok(1));
+    /// assert_eq!(store.uvmcreate(), Err(Refusal::TooFewTables));
+    /// ```
+    pub fn uvmcreate(&mut self) -> Result<u64, Refusal> {
+        let reply = unsafe {
+            archive::ronakvesh_uvmcreate(
+                self.words.as_ptr(),
+                self.words.len(),
+                self.tmarks.as_mut_ptr(),
+                self.tmarks.len(),
+                self.bytes.as_ptr(),
+                self.bytes.len(),
+                self.fmarks.as_ptr(),
+                self.fmarks.len(),
+            )
+        };
+        reply.result()
+    }
+
+    /// Maps the pages that `size` bytes from `va` on lie in to the frames from `pa` on, with the permissions and V, in a
+    /// root, and answers how many tables that took. An unaligned `pa` is rounded down.
+    ///
+    /// Refuses with [`Sizes`](Refusal::Sizes), [`NotWellFormed`](Refusal::NotWellFormed), [`NoRoot`](Refusal::NoRoot),
+    /// [`TooHigh`](Refusal::TooHigh), [`Permissions`](Refusal::Permissions), [`FrameTooHigh`](Refusal::FrameTooHigh),
+    /// [`HeldWindow`](Refusal::HeldWindow), [`MappedAlready`](Refusal::MappedAlready),
+    /// [`TooFewTables`](Refusal::TooFewTables).
+    ///
+    /// ```
+    /// # use ronakvesh::{PhysicalAddress, Refusal, Store, VirtualAddress};
+    /// # let (mut words, mut tmarks, mut bytes, mut fmarks) = ([0; 512 * 3], [0; 3], [0; 4096], [0; 1]);
+    /// # let mut store = Store { words: &mut words, tmarks: &mut tmarks, bytes: &mut bytes, fmarks: &mut fmarks };
+    /// let root = store.uvmcreate()?;
+    /// let (va, pa) = (VirtualAddress(0x1000), PhysicalAddress(0x8000_0000));
+    /// assert_eq!(store.map(root, va, pa, 4096, 22), Ok(2));
+    /// assert_eq!(store.map(root, va, pa, 4096, 22), Err(Refusal::MappedAlready));
+    /// # Ok::<(), ronakvesh::Refusal>(())
+    /// ```
+    pub fn map(
+        &mut self,
+        root: u64,
+        va: VirtualAddress,
+        pa: PhysicalAddress,
+        size: u64,
+        perm: u64,
+    ) -> Result<u64, Refusal> {
+        let reply = unsafe {
+            archive::ronakvesh_map(
+                self.words.as_mut_ptr(),
+                self.words.len(),
+                self.tmarks.as_mut_ptr(),
+                self.tmarks.len(),
+                self.bytes.as_ptr(),
+                self.bytes.len(),
+                self.fmarks.as_ptr(),
+                self.fmarks.len(),
+                root,
+                va.0,
+                pa.0,
+                size,
+                perm,
+            )
+        };
+        reply.result()
+    }
+
+    /// The address of the frame that the page of `va` resolves to in a root, without the offset.
+    ///
+    /// Refuses with [`Sizes`](Refusal::Sizes), [`NotWellFormed`](Refusal::NotWellFormed), [`NoRoot`](Refusal::NoRoot),
+    /// [`TooHigh`](Refusal::TooHigh), [`NotMapped`](Refusal::NotMapped), [`NotUser`](Refusal::NotUser).
+    ///
+    /// ```
+    /// # use ronakvesh::{PhysicalAddress, Refusal, Store, VirtualAddress};
+    /// # let (mut words, mut tmarks, mut bytes, mut fmarks) = ([0; 512 * 3], [0; 3], [0; 4096], [0; 1]);
+    /// # let mut store = Store { words: &mut words, tmarks: &mut tmarks, bytes: &mut bytes, fmarks: &mut fmarks };
+    /// let root = store.uvmcreate()?;
+    /// store.map(root, VirtualAddress(0x1000), PhysicalAddress(0x8000_0000), 4096, 22)?;
+    /// assert_eq!(store.pgt_translate(root, VirtualAddress(0x1004)), Ok(PhysicalAddress(0x8000_0000)));
+    /// assert_eq!(store.pgt_translate(root, VirtualAddress(0x2000)), Err(Refusal::NotMapped));
+    /// # Ok::<(), ronakvesh::Refusal>(())
+    /// ```
+    pub fn pgt_translate(&self, root: u64, va: VirtualAddress) -> Result<PhysicalAddress, Refusal> {
+        let reply = unsafe {
+            archive::ronakvesh_pgt_translate(
+                self.words.as_ptr(),
+                self.words.len(),
+                self.tmarks.as_ptr(),
+                self.tmarks.len(),
+                self.bytes.as_ptr(),
+                self.bytes.len(),
+                self.fmarks.as_ptr(),
+                self.fmarks.len(),
+                root,
+                va.0,
+            )
+        };
+        reply.result().map(PhysicalAddress)
+    }
+
+    /// The number that the satp register takes for a root: mode 8, and the number of the root's frame.
+    ///
+    /// Refuses with [`Sizes`](Refusal::Sizes), [`NotWellFormed`](Refusal::NotWellFormed), [`NoRoot`](Refusal::NoRoot).
+    ///
+    /// ```
+    /// # use ronakvesh::{Refusal, Store};
+    /// # let (mut words, mut tmarks, mut bytes, mut fmarks) = ([0; 512 * 2], [0; 2], [0; 4096], [0; 1]);
+    /// # let mut store = Store { words: &mut words, tmarks: &mut tmarks, bytes: &mut bytes, fmarks: &mut fmarks };
+    /// let root = store.uvmcreate()?;
+    /// assert_eq!(store.as_satp(root), Ok(0x8000_0000_0010_0000));
+    /// assert_eq!(store.as_satp(1), Err(Refusal::NoRoot));
+    /// # Ok::<(), ronakvesh::Refusal>(())
+    /// ```
+    pub fn as_satp(&self, root: u64) -> Result<u64, Refusal> {
+        let reply = unsafe {
+            archive::ronakvesh_as_satp(
+                self.words.as_ptr(),
+                self.words.len(),
+                self.tmarks.as_ptr(),
+                self.tmarks.len(),
+                self.bytes.as_ptr(),
+                self.bytes.len(),
+                self.fmarks.as_ptr(),
+                self.fmarks.len(),
+                root,
+            )
+        };
+        reply.result()
+    }
+}

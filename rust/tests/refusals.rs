@@ -1,0 +1,163 @@
+//! Every refusal that the calls can give, each beside the nearest input that is taken. A refusal leaves the store as it was.
+
+mod memory;
+
+use memory::{refuses, Memory};
+use ronakvesh::{PhysicalAddress, Refusal, Store, VirtualAddress};
+
+const FRAME: u64 = 0x8000_0000;
+const END: u64 = 1 << 38;
+
+/// Maps in a root with permissions 22.
+fn map(store: &mut Store, root: u64, va: u64, pa: u64, size: u64) -> Result<u64, Refusal> {
+    store.map(root, VirtualAddress(va), PhysicalAddress(pa), size, 22)
+}
+
+/// Maps a page of root 0 with these permissions.
+fn map_with(store: &mut Store, perm: u64) -> Result<u64, Refusal> {
+    store.map(0, VirtualAddress(0), PhysicalAddress(FRAME), 4096, perm)
+}
+
+fn find(store: &Store, root: u64, va: u64) -> Result<PhysicalAddress, Refusal> {
+    store.pgt_translate(root, VirtualAddress(va))
+}
+
+/// Every call but set-up and the check refuses the store with this number.
+fn all_refuse(memory: &mut Memory, refusal: Refusal) {
+    refuses(memory, refusal, |store| store.uvmcreate());
+    refuses(memory, refusal, |store| map(store, 0, 0, FRAME, 4096));
+    refuses(memory, refusal, |store| find(store, 0, 0));
+    refuses(memory, refusal, |store| store.as_satp(0));
+}
+
+#[test]
+fn sizes() {
+    for (tables, frames) in [(0, 1), (513, 1), (1, 0), (1, 4097)] {
+        let mut memory = Memory::of(tables, frames);
+        refuses(&mut memory, Refusal::Sizes, |store| store.set_up());
+        refuses(&mut memory, Refusal::Sizes, |store| store.check());
+        all_refuse(&mut memory, Refusal::Sizes);
+    }
+    for (tables, frames) in [(1, 1), (512, 1), (1, 4096)] {
+        assert_eq!(Memory::of(tables, frames).store().set_up(), Ok(()));
+    }
+}
+
+#[test]
+fn lengths() {
+    let mut short = Memory::of(2, 2);
+    short.words.pop();
+    let mut long = Memory::of(2, 2);
+    long.bytes.push(0);
+    for mut memory in [short, long] {
+        refuses(&mut memory, Refusal::Sizes, |store| store.set_up());
+        refuses(&mut memory, Refusal::Sizes, |store| store.check());
+        all_refuse(&mut memory, Refusal::Sizes);
+    }
+}
+
+#[test]
+fn not_well_formed() {
+    let mut memory = Memory::with_root(8);
+    assert_eq!(memory.store().check(), Ok(true));
+    memory.words[256] = 0x4000_0401;
+    assert_eq!(memory.store().check(), Ok(false));
+    all_refuse(&mut memory, Refusal::NotWellFormed);
+}
+
+#[test]
+fn no_root() {
+    let mut memory = Memory::with_root(8);
+    for root in [1, 8, u64::MAX] {
+        refuses(&mut memory, Refusal::NoRoot, |store| map(store, root, 0, FRAME, 4096));
+        refuses(&mut memory, Refusal::NoRoot, |store| find(store, root, 0));
+        refuses(&mut memory, Refusal::NoRoot, |store| store.as_satp(root));
+    }
+    assert_eq!(memory.store().as_satp(0), Ok(0x8000_0000_0010_0000));
+}
+
+#[test]
+fn too_high() {
+    let mut memory = Memory::with_root(8);
+    for (va, size) in [(END, 1), (END - 4096, 4097), (0, END + 1), (u64::MAX, 1), (u64::MAX, u64::MAX)] {
+        refuses(&mut memory, Refusal::TooHigh, |store| map(store, 0, va, FRAME, size));
+    }
+    assert_eq!(map(&mut memory.store(), 0, END - 4096, FRAME, 4096), Ok(2));
+    refuses(&mut memory, Refusal::TooHigh, |store| find(store, 0, END));
+    assert_eq!(find(&memory.store(), 0, END - 1), Ok(PhysicalAddress(FRAME)));
+}
+
+#[test]
+fn permissions() {
+    let mut memory = Memory::with_root(8);
+    for perm in [1024, u64::MAX] {
+        refuses(&mut memory, Refusal::Permissions, |store| map_with(store, perm));
+    }
+    assert_eq!(map_with(&mut memory.store(), 1023), Ok(2));
+}
+
+#[test]
+fn frame_too_high() {
+    let mut memory = Memory::with_root(8);
+    let last = (1 << 56) - 4096;
+    refuses(&mut memory, Refusal::FrameTooHigh, |store| map(store, 0, 0, 1 << 56, 1));
+    refuses(&mut memory, Refusal::FrameTooHigh, |store| map(store, 0, 0, last, 4097));
+    assert_eq!(map(&mut memory.store(), 0, 0, last, 4096), Ok(2));
+}
+
+#[test]
+fn held_window() {
+    let mut memory = Memory::with_root(8);
+    let (first, end) = (0x1_0000_0000, 0x1_2000_0000);
+    for (pa, size) in [(first, 1), (end - 4096, 1), (first - 4096, 4097)] {
+        refuses(&mut memory, Refusal::HeldWindow, |store| map(store, 0, 0, pa, size));
+    }
+    assert_eq!(map(&mut memory.store(), 0, 0, first - 4096, 4096), Ok(2));
+    assert_eq!(map(&mut memory.store(), 0, 4096, end, 4096), Ok(0));
+}
+
+#[test]
+fn not_mapped() {
+    let mut memory = Memory::with_root(8);
+    refuses(&mut memory, Refusal::NotMapped, |store| find(store, 0, 4096));
+    assert_eq!(map(&mut memory.store(), 0, 4096, FRAME, 4096), Ok(2));
+    assert_eq!(find(&memory.store(), 0, 4096), Ok(PhysicalAddress(FRAME)));
+    refuses(&mut memory, Refusal::NotMapped, |store| find(store, 0, 8192));
+}
+
+#[test]
+fn not_user() {
+    let mut memory = Memory::with_root(8);
+    assert_eq!(map_with(&mut memory.store(), 1023 - 16), Ok(2));
+    refuses(&mut memory, Refusal::NotUser, |store| find(store, 0, 0));
+}
+
+#[test]
+fn mapped_already() {
+    let mut memory = Memory::with_root(8);
+    assert_eq!(map(&mut memory.store(), 0, 4096, FRAME, 4096), Ok(2));
+    for (va, size) in [(4096, 1), (4095, 2), (0, 1 << 31)] {
+        refuses(&mut memory, Refusal::MappedAlready, |store| map(store, 0, va, 0, size));
+    }
+    assert_eq!(map(&mut memory.store(), 0, 0, FRAME, 4096), Ok(0));
+}
+
+#[test]
+fn too_few_tables() {
+    let mut memory = Memory::with_root(2);
+    refuses(&mut memory, Refusal::TooFewTables, |store| map(store, 0, 4096, FRAME, 4096));
+    assert_eq!(memory.store().uvmcreate(), Ok(1));
+    refuses(&mut memory, Refusal::TooFewTables, |store| store.uvmcreate());
+    assert_eq!(map(&mut Memory::with_root(3).store(), 0, 4096, FRAME, 4096), Ok(2));
+}
+
+#[test]
+fn the_smallest_is_given() {
+    let mut memory = Memory::with_root(2);
+    let far = PhysicalAddress(u64::MAX);
+    refuses(&mut memory, Refusal::NoRoot, |store| store.map(1, VirtualAddress(END), far, 1, 1024));
+    refuses(&mut memory, Refusal::TooHigh, |store| store.map(0, VirtualAddress(END), far, 1, 1024));
+    refuses(&mut memory, Refusal::Permissions, |store| store.map(0, VirtualAddress(0), far, 1, 1024));
+    refuses(&mut memory, Refusal::FrameTooHigh, |store| store.map(0, VirtualAddress(0), far, 1, 1023));
+    refuses(&mut memory, Refusal::TooFewTables, |store| map_with(store, 1023));
+}
