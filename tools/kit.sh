@@ -1,4 +1,4 @@
-# kit.sh: read by the tools beside it. It finds the repository and the Rattle kit, and reads crates.txt.
+# kit.sh: read by the tools beside it. It finds the repository and the Rattle kit, reads crates.txt, and installs packages.
 # shellcheck shell=sh disable=SC2034
 
 root=$(CDPATH='' cd -- "$(dirname -- "$0")/.." && pwd -P)
@@ -36,4 +36,28 @@ prove() { # NAME
     cat "$target/log/$1.proof" >&2
     complain "$1 is not proved"
     exit 1
+}
+
+# Is there a command of this name?
+has() { command -v "$1" >/dev/null 2>&1; }
+
+# Installs what the tool's own function `missing` prints, or says that it cannot.
+provide() {
+    [ -n "$(missing)" ] || return 0
+    if ! has apt-get || [ "$(id -u)" -ne 0 ]; then
+        complain "missing packages: $(missing | tr '\n' ' ')(installing them takes apt-get and root)"
+        exit 1
+    fi
+    log=$target/log/${0##*/}
+    mkdir -p "${log%/*}"
+    apt-get update >"$log" 2>&1 || true
+    packages=$(missing | tr '\n' ' ')
+    echo "installing: $packages"
+    # shellcheck disable=SC2086
+    DEBIAN_FRONTEND=noninteractive apt-get install -y --no-install-recommends $packages >>"$log" 2>&1 || true
+    if [ -n "$(missing)" ]; then
+        tail -n 5 "$log" >&2
+        complain "cannot install: $(missing | tr '\n' ' ')(target/log/${0##*/} has what apt-get said)"
+        exit 1
+    fi
 }
