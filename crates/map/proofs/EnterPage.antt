@@ -11,7 +11,7 @@ use Rattle.store.proofs.Walk.{depth, reach, top-of}
 use Rattle.map.specs.Enter.{hang, tabled, enterPage, Plain}
 use Rattle.map.proofs.Step.{Step, in-words}
 use Rattle.map.proofs.Hang.{hung}
-use Rattle.map.proofs.Write.{store-here, store-step}
+use Rattle.map.proofs.Write.{leaf-here, store-step}
 
 -- what the walk for page p looks up at depth d: the group of the page, its block, the page itself
 unfoldable pub part : ℕ → ℕ → ℕ
@@ -127,7 +127,7 @@ enter-page s z w r p e rr h none ok fr =
       roots = λ y. (λ q. t .roots y .0 (g .roots y .0 q), λ q. g .roots y .1 (t .roots y .1 q));
       bytes = t .bytes ∙ g .bytes;
       fmarks = t .fmarks ∙ g .fmarks;
-      here = store-here s₀ (g .sized) (g .tree) r p e rr₀ (top-of p h) m2 none₀ ok₀;
+      here = leaf-here s₀ (g .sized) (g .tree) r p e rr₀ (top-of p h) m2 (s₀ .bytes) (s₀ .fmarks);
       group = omega (arith, t .rest r 0 (p / 512 / 512) rr₀ (omega arith) (omega arith) (λ a b c. omega arith), g .group);
       block = omega (arith, t .rest r 1 (p / 512) rr₀ (omega arith) (omega arith) (λ a b c. omega arith), g .block);
       rest = λ r′ d x q l b n.
