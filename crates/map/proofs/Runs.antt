@@ -39,10 +39,18 @@ one-write : (s : Store) (r p e : ℕ) → 0 < entryAt s r 0 (p / 512 / 512) → 
 unfolding enterPage
 one-write s r p e g b = ap (λ (x : Store). stored x (slot (slotWord (x .words)) r 2 p) e) (tabled-already s r p g b)
 
+-- the next page of the block has the next slot, in every store in which the block has the same entry
+pub next-slot : (s s′ : Store) (r p : ℕ) → suc p % 512 ≡ suc (p % 512) → entryAt s′ r 1 (p / 512) ≡ entryAt s r 1 (p / 512) → 2 ≤ slot (slotWord (s .words)) r 2 p
+    → slot (slotWord (s′ .words)) r 2 (suc p) ≡ suc (slot (slotWord (s .words)) r 2 p)
+unfolding slot entryAt
+next-slot s s′ r p i same m2 =
+    let b : suc p / 512 ≡ p / 512 = omega arith in
+    ap (λ (x : ℕ). slotIn x (suc p % 512)) (ap (entryAt s′ r 1) b ∙ same) ∙ ap (slotIn (entryAt s r 1 (p / 512))) i ∙ (omega arith)
+
 -- the run from page p on, where its tables are there
 run-there : (n : ℕ) (s : Store) (r p e : ℕ) → Ready (suc n) s r p e → 0 < entryAt s r 0 (p / 512 / 512) → 0 < entryAt s r 1 (p / 512) → p % 512 + suc n ≤ 512
     → enterPages s r p (suc n) e ≡ storeOf (putRun (s .words) (slot (slotWord (s .words)) r 2 p) (suc n) e) (s .tmarks) (s .bytes) (s .fmarks)
-unfolding enterPages putRun top slot entryAt
+unfolding enterPages putRun top
 run-there zero s r p e c g b l = one-write s r p e g b
 run-there (suc n) s r p e c g b l =
     let s′ : Store = stored s (slot (slotWord (s .words)) r 2 p) e in
@@ -55,17 +63,13 @@ run-there (suc n) s r p e c g b l =
     let ok = plain-leaf (mark (s .fmarks)) (slot (slotWord (s .words)) r 2 p) e (subst Plain e₀ (c .plain 0 (omega arith))) in
     let st = store-step s (c .sized) (c .tree) r p e (c .root) (top-of p h) m2 none ok in
     let b₁ : suc p / 512 ≡ p / 512 = omega arith in
-    let i₁ : suc p % 512 ≡ suc (p % 512) = omega arith in
     let same₀ : entryAt s′ r 0 (suc p / 512 / 512) ≡ entryAt s r 0 (p / 512 / 512) =
     ap (λ (x : ℕ). entryAt s′ r 0 (x / 512)) b₁ ∙ st .rest r 0 (p / 512 / 512) (c .root) (omega arith) (omega arith) (λ u v y. omega arith) in
-    let same₁ : entryAt s′ r 1 (suc p / 512) ≡ entryAt s r 1 (p / 512) =
-    ap (entryAt s′ r 1) b₁ ∙ st .rest r 1 (p / 512) (c .root) (omega arith) (omega arith) (λ u v y. omega arith) in
-    let next : slotIn (entryAt s′ r 1 (suc p / 512)) (suc p % 512) ≡ suc (slotIn (entryAt s r 1 (p / 512)) (p % 512)) =
-    ap (λ (x : ℕ). slotIn x (suc p % 512)) same₁ ∙ ap (slotIn (entryAt s r 1 (p / 512))) i₁ ∙ (omega arith) in
+    let same₁ : entryAt s′ r 1 (p / 512) ≡ entryAt s r 1 (p / 512) = st .rest r 1 (p / 512) (c .root) (omega arith) (omega arith) (λ u v y. omega arith) in
     let c′ : Ready (suc n) s′ r (suc p) (e + 1024) = subst (λ (x : Store). Ready (suc n) x r (suc p) (e + 1024)) one (first (suc n) s r p e c z .1) in
     ap (λ (x : Store). enterPages x r (suc p) (suc n) (e + 1024)) one
-    ∙ run-there n s′ r (suc p) (e + 1024) c′ (omega (arith, same₀)) (omega (arith, same₁)) (omega arith)
-    ∙ ap (λ (k : ℕ). storeOf (putRun (s′ .words) k (suc n) (e + 1024)) (s .tmarks) (s .bytes) (s .fmarks)) next
+    ∙ run-there n s′ r (suc p) (e + 1024) c′ (omega (arith, same₀)) (omega (arith, same₁, ap (entryAt s′ r 1) b₁)) (omega arith)
+    ∙ ap (λ (k : ℕ). storeOf (putRun (s′ .words) k (suc n) (e + 1024)) (s .tmarks) (s .bytes) (s .fmarks)) (next-slot s s′ r p (omega arith) same₁ m2)
 
 -- hanging tables leaves as many words
 hang-length : (s : Store) (m : ℕ) → length (hang s m .words) ≡ length (s .words)

@@ -6,7 +6,7 @@ ghost use Rattle.store.specs.Store.{Store, storeOf};
 ghost use Rattle.map.specs.Enter.{putSlot, putRun, Becomes, tabled, enterRun, enterPages, CanEnter, Hangable, RunFits, hang as Enter·hang};
 
 // v goes into slot m; slots 0 and 1 are no words, nor are those past the end.
-fn put_slot(words: &mut [u64], m: usize, v: u64)
+pub fn put_slot(words: &mut [u64], m: usize, v: u64)
     ensures { λ _. ⌜ now (words .exit) ≡ putSlot (now (words .entry)) m v ⌝ }
 {
     if m < 2 {

@@ -5,4 +5,6 @@ mod judge;
 mod mapping;
 
 pub use create::uvmcreate;
+pub use enter::put_mark;
+pub use enter::put_slot;
 pub use mapping::map;

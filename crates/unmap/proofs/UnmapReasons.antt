@@ -1,0 +1,97 @@
+-- The reasons of `uvm_unmap` in order, and what each way out of its judge says. Assumes nothing.
+use mathlib.Core.Path.{_≡_, refl}
+use mathlib.Core.Bool.{Bool}
+use Prim.Native.Nat.{ℕ, suc, _+_, _-_, _/_, _%_, _^_, _≤_, _<_}
+use native.Mathlib.Nat.{le-refl}
+use native.Mathlib.Decide.{decLe}
+use mathlib.Core.Logic.{by-cases}
+use native.Mathlib.Omega.{arith}
+use Rattle.store.specs.Store.{Store, Sized, mark}
+use Rattle.store.specs.WellFormed.{WellFormed}
+use Rattle.store.specs.Outcome.{NoReason, Judges}
+use Rattle.store.proofs.Outcomes.{judges-no, judges-ok}
+use Rattle.well_formed.specs.Check.{Judged}
+use Rattle.well_formed.proofs.Verdict.{judged-no}
+use Rattle.unmap.specs.Leave.{Asked, LeaveReason, pooled, unmapped, bare, LeaveReady}
+use Rattle.unmap.specs.Unmap.{TooHigh, UnmapReason, sizes, unformed, no-root, too-high, unaligned, pages, UnmapReady}
+
+-- where no page lies too high, the last one does not
+pub within : (p k : ℕ) → 0 < k → (TooHigh p k → ⊥) → p + k ≤ 2 ^ 26
+within p k h q = by-cases (decLe (p + k) (2 ^ 26)) (λ y. y) (λ y. absurd (q (k - 1, omega arith, omega arith)))
+
+-- pages are refused with 10 to 13
+leave-range : {s : Store} {r p n : ℕ} {freeing : Bool} {k : ℕ} → LeaveReason s r p n freeing k → (10 ≤ k) × (k ≤ 13)
+leave-range (pooled h) = omega arith
+leave-range (unmapped i l h) = omega arith
+leave-range (bare i l h) = omega arith
+
+-- where they are ready none applies
+pub leave-clear : {s : Store} {r p n : ℕ} {freeing : Bool} → LeaveReady s r p n freeing → (k : ℕ) → LeaveReason s r p n freeing k → ⊥
+leave-clear f k (pooled h) = f .foreign h
+leave-clear f k (unmapped i l h) = h (f .mapped i l)
+leave-clear f k (bare i l h) = f .full i l h
+
+module _ (s : Store) (root va n : ℕ) (freeing : Bool) where
+  abbrev R : ℕ → Type 0
+  R = UnmapReason s root va n freeing
+
+  abbrev F : Type 0
+  F = UnmapReady s root va n freeing
+
+  abbrev L : ℕ → Type 0
+  L = LeaveReason s root (va / 4096) n freeing
+
+  least : (j : ℕ) → (1 < j → Sized s) → (2 < j → WellFormed s) → (3 < j → mark (s .tmarks) root ≡ 1) → (6 < j → TooHigh (va / 4096) n → ⊥) → (7 < j → va % 4096 ≡ 0)
+      → ((k : ℕ) → k < j → L k → ⊥) → (k : ℕ) → k < j → R k → ⊥
+  least j z w r t a o k l (sizes h) = h (z l)
+  least j z w r t a o k l (unformed h) = h (w l)
+  least j z w r t a o k l (no-root h) = h (r l)
+  least j z w r t a o k l (too-high h) = t l h
+  least j z w r t a o k l (unaligned h) = h (a l)
+  least j z w r t a o k l (pages h) = o k l h
+
+  -- below 10 no page is at fault
+  early : (j : ℕ) → j ≤ 10 → (k : ℕ) → k < j → L k → ⊥
+  early j h k l q = omega (arith, leave-range q)
+
+  pub not-judged : (j : ℕ) → Judged s j → (j ≡ 0 → ⊥) → Judges R F j
+  not-judged j q h =
+      judges-no R F j h
+      (judged-no s R
+      (λ h. record { applies = sizes h; least = least 1 (λ l. absurd (omega arith)) (λ l. absurd (omega arith)) (λ l. absurd (omega arith)) (λ l. absurd (omega arith)) (λ l. absurd (omega arith)) (early 1 (omega arith)) })
+      (λ z h. record { applies = unformed h; least = least 2 (λ l. z) (λ l. absurd (omega arith)) (λ l. absurd (omega arith)) (λ l. absurd (omega arith)) (λ l. absurd (omega arith)) (early 2 (omega arith)) })
+      j q h)
+
+  module _ (z : Sized s) (w : WellFormed s) where
+    pub no-3 : (mark (s .tmarks) root ≡ 1 → ⊥) → Judges R F 3
+    no-3 h = judges-no R F 3 (omega arith) (record { applies = no-root h; least = least 3 (λ l. z) (λ l. w) (λ l. absurd (omega arith)) (λ l. absurd (omega arith)) (λ l. absurd (omega arith)) (early 3 (omega arith)) })
+
+    module _ (r : mark (s .tmarks) root ≡ 1) where
+      pub no-6 : TooHigh (va / 4096) n → Judges R F 6
+      no-6 h = judges-no R F 6 (omega arith) (record { applies = too-high h; least = least 6 (λ l. z) (λ l. w) (λ l. r) (λ l. absurd (omega arith)) (λ l. absurd (omega arith)) (early 6 (omega arith)) })
+
+      module _ (t : TooHigh (va / 4096) n → ⊥) where
+        pub no-7 : (va % 4096 ≡ 0 → ⊥) → Judges R F 7
+        no-7 h = judges-no R F 7 (omega arith) (record { applies = unaligned h; least = least 7 (λ l. z) (λ l. w) (λ l. r) (λ l. t) (λ l. absurd (omega arith)) (early 7 (omega arith)) })
+
+        module _ (a : va % 4096 ≡ 0) where
+          ready : LeaveReady s root (va / 4096) n freeing → F
+          ready f = record { sized = z; formed = w; is-root = r; below = t; aligned = a; pages = f }
+
+          pub nothing : n ≡ 0 → Judges R F 0
+          nothing h =
+              judges-ok R F 0 refl (ready (record {
+                foreign = λ m. omega (arith, m .2);
+                mapped = λ i l. absurd (omega arith);
+                full = λ i l. absurd (omega arith);
+              }))
+
+          pub by-pages : (j : ℕ) → Judges L (LeaveReady s root (va / 4096) n freeing) j → Judges R F j
+          by-pages j q = record {
+            ready = λ e. ready (q .ready e);
+            reason = λ h. let m = q .reason h in record { applies = pages (m .applies); least = least j (λ l. z) (λ l. w) (λ l. r) (λ l. t) (λ l. a) (m .least) };
+          }
+
+  -- where the call is ready no reason applies
+  pub clear : F → NoReason R
+  clear f k = least (suc k) (λ l. f .sized) (λ l. f .formed) (λ l. f .is-root) (λ l. f .below) (λ l. f .aligned) (λ j l. leave-clear (f .pages) j) k (le-refl (suc k))

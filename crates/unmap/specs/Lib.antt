@@ -1,0 +1,4 @@
+-- What the contracts of `uvm_unmap` and `uvm_clear` cite.
+pub mod Leave
+pub mod Unmap
+pub mod Clear

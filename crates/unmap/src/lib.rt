@@ -1,0 +1,9 @@
+// Taking pages out of a root, after `uvm_unmap` of page_table.rs, and taking U away, after `uvm_clear`.
+mod judge;
+mod leave;
+mod unmapping;
+
+pub use judge::judge_leave;
+pub use leave::leave_pages;
+pub use unmapping::uvm_clear;
+pub use unmapping::uvm_unmap;
