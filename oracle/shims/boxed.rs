@@ -28,6 +28,11 @@ pub fn set_free(table_marks: &[u32], frame_marks: &[u32]) {
     FREE.set(Free { tables, frames });
 }
 
+/// How many tables are free.
+pub fn free_tables() -> usize {
+    FREE.with_borrow(|free| free.tables.len())
+}
+
 /// The addresses of the pages with mark 0, downward; page 0 lies at `first`.
 fn unmarked(marks: &[u32], first: usize) -> Vec<usize> {
     let free = (0..marks.len()).rev().filter(|&page| marks[page] == 0);

@@ -42,6 +42,11 @@ pub fn table(number: usize) -> *mut PageTable {
     (TABLES_AT + PAGE * number) as *mut PageTable
 }
 
+/// The number of a table.
+pub fn number(table: *const PageTable) -> usize {
+    (table as usize - TABLES_AT) / PAGE
+}
+
 /// Writes a store's words and bytes to the window.
 pub fn write(words: &[u64], bytes: &[u8]) {
     check_lengths(words, bytes);

@@ -60,70 +60,67 @@ unsafe extern "C" {
     pub safe fn ronakvesh_entry_write_perm(pa: u64, permissions: u64) -> Reply;
 }
 
-// A lent slice is a pointer to its first element, then how many elements it has. No two of them may overlap.
+/// The numbers that a call is made with. Those that it does not have are 0 and not looked at.
+pub type Numbers = [u64; 5];
 
-#[link(name = "interface", kind = "static")]
-unsafe extern "C" {
-    pub fn ronakvesh_set_up(
-        words: *mut u64,
-        words_length: usize,
-        table_marks: *mut u32,
-        table_marks_length: usize,
-        bytes: *mut u8,
-        bytes_length: usize,
-        frame_marks: *mut u32,
-        frame_marks_length: usize,
-    ) -> Reply;
+/// For a call that has no numbers.
+pub const NO_NUMBERS: Numbers = [0; 5];
 
-    pub fn ronakvesh_check(
-        words: *const u64,
-        words_length: usize,
-        table_marks: *const u32,
-        table_marks_length: usize,
-        bytes: *const u8,
-        bytes_length: usize,
-        frame_marks: *const u32,
-        frame_marks_length: usize,
-    ) -> Reply;
+/// The four slices of a store, as they are lent to a call.
+#[derive(Clone, Copy)]
+pub struct Slices {
+    pub words: *mut [u64],
+    pub table_marks: *mut [u32],
+    pub bytes: *mut [u8],
+    pub frame_marks: *mut [u32],
+}
 
-    pub fn ronakvesh_pgt_translate(
-        words: *const u64,
-        words_length: usize,
-        table_marks: *const u32,
-        table_marks_length: usize,
-        bytes: *const u8,
-        bytes_length: usize,
-        frame_marks: *const u32,
-        frame_marks_length: usize,
-        root: u64,
-        va: u64,
-    ) -> Reply;
+/// Declares calls, each by the name that it has here, its own name and the names of its numbers. A lent slice goes to it
+/// as a pointer to the first element, then how many elements there are.
+///
+/// # Safety of each
+/// The slices are there and do not overlap, and those that the call writes to may be written.
+macro_rules! calls {
+    ($($name:ident = $export:ident($($number:ident),*);)*) => {
+        unsafe extern "C" {
+            $(fn $export(
+                words: *mut u64,
+                words_length: usize,
+                table_marks: *mut u32,
+                table_marks_length: usize,
+                bytes: *mut u8,
+                bytes_length: usize,
+                frame_marks: *mut u32,
+                frame_marks_length: usize,
+                $($number: u64),*
+            ) -> Reply;)*
+        }
 
-    pub fn ronakvesh_as_satp(
-        words: *const u64,
-        words_length: usize,
-        table_marks: *const u32,
-        table_marks_length: usize,
-        bytes: *const u8,
-        bytes_length: usize,
-        frame_marks: *const u32,
-        frame_marks_length: usize,
-        root: u64,
-    ) -> Reply;
+        $(pub unsafe fn $name(slices: Slices, [$($number,)* ..]: Numbers) -> Reply {
+            let Slices { words, table_marks, bytes, frame_marks } = slices;
+            // SAFETY: as above; each pointer goes with the length of its slice.
+            unsafe {
+                $export(
+                    words.cast(),
+                    words.len(),
+                    table_marks.cast(),
+                    table_marks.len(),
+                    bytes.cast(),
+                    bytes.len(),
+                    frame_marks.cast(),
+                    frame_marks.len(),
+                    $($number),*
+                )
+            }
+        })*
+    };
+}
 
-    pub fn ronakvesh_map(
-        words: *mut u64,
-        words_length: usize,
-        table_marks: *mut u32,
-        table_marks_length: usize,
-        bytes: *const u8,
-        bytes_length: usize,
-        frame_marks: *const u32,
-        frame_marks_length: usize,
-        root: u64,
-        va: u64,
-        pa: u64,
-        size: u64,
-        permissions: u64,
-    ) -> Reply;
+calls! {
+    set_up = ronakvesh_set_up();
+    check = ronakvesh_check();
+    pgt_translate = ronakvesh_pgt_translate(root, va);
+    as_satp = ronakvesh_as_satp(root);
+    uvmcreate = ronakvesh_uvmcreate();
+    map = ronakvesh_map(root, va, pa, size, permissions);
 }

@@ -2,13 +2,14 @@
 
 pub mod batch;
 pub mod inputs;
+pub mod judge;
+pub mod list;
 pub mod listed;
 pub mod map;
 #[cfg_attr(not(feature = "rust"), path = "no_original.rs")]
 pub mod original;
-pub mod proved;
-pub mod read;
 pub mod report;
 pub mod run;
-pub mod sides;
 pub mod tally;
+pub mod tried;
+pub mod uvmcreate;

@@ -1,7 +1,7 @@
 //! In place of the Rust where it is not there.
 
 use crate::answer::Answer;
-use crate::call::map::Arguments;
+use crate::archive::Numbers;
 use crate::model::Store;
 
 /// Whether the Rust is there.
@@ -9,22 +9,23 @@ pub const IS_THERE: bool = false;
 
 pub fn open() {}
 
-pub fn hold(_: &Store) {}
+pub fn hold_bytes(_: &Store) {}
 
 pub fn hold_words(_: &Store) {}
+
+pub fn set_free(_: &Store) {}
 
 pub fn holds(_: &Store) -> bool {
     true
 }
 
-pub fn pgt_translate(_: u64, _: u64) -> Answer {
+pub fn holds_words(_: &Store) -> bool {
+    true
+}
+
+/// No call of the Rust is made.
+pub fn absent(_: Numbers) -> Answer {
     unreachable!("the Rust is not there")
 }
 
-pub fn as_satp(_: u64, _: u64) -> Answer {
-    unreachable!("the Rust is not there")
-}
-
-pub fn map(_: &Arguments) -> Answer {
-    unreachable!("the Rust is not there")
-}
+pub use {absent as as_satp, absent as map, absent as pgt_translate, absent as uvmcreate};

@@ -19,26 +19,26 @@ pub fn print(build: Option<Build>, run: &Run) {
         row(tally);
     }
     for tally in &run.tallies {
-        let refusals = tally.named.refusals.iter().zip(&tally.refused);
+        let refusals = tally.call.refusals.iter().zip(&tally.refused);
         let refusals: Vec<String> = refusals.map(|(number, count)| format!("{count} with {number}")).collect();
-        println!("{:14} refused {}", tally.named.name, refusals.join(", "));
+        println!("{:14} refused {}", tally.call.name, refusals.join(", "));
     }
 }
 
 /// A call's line in the table.
 fn row(tally: &Tally) {
     let run = compared(tally);
-    let Tally { named, calls, answered, equal, .. } = tally;
-    let listed = named.differences.iter().zip(&tally.listed).filter(|listed| *listed.1 > 0);
+    let Tally { call, calls, answered, equal, .. } = tally;
+    let listed = tally.differences.iter().zip(&tally.listed).filter(|listed| *listed.1 > 0);
     let listed: Vec<String> = listed.map(|(name, count)| format!("{count} {name}")).collect();
-    let line = format!("{:14} {calls:>9} {answered:>9} {run:>9} {equal:>9}  {}", named.name, listed.join("; "));
+    let line = format!("{:14} {calls:>9} {answered:>9} {run:>9} {equal:>9}  {}", call.name, listed.join("; "));
     println!("{}", line.trim_end());
 }
 
 /// How often the Rust was run.
 fn compared(tally: &Tally) -> u64 {
     if original::IS_THERE {
-        tally.on_roots
+        tally.runs
     } else {
         0
     }

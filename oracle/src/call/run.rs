@@ -1,11 +1,13 @@
 //! What is counted over all stores.
 
 use crate::answer::Build;
-use crate::call::map::{self, Arguments, Mapped};
+use crate::call::inputs::Inputs;
+use crate::call::judge::judge;
+use crate::call::list::CALLS;
 use crate::call::original;
-use crate::call::read::{self, Tried};
-use crate::call::sides::CALLS;
 use crate::call::tally::Tally;
+use crate::call::tried::Tried;
+use crate::random::Random;
 
 /// How many differences are printed.
 const SHOWN: usize = 10;
@@ -16,12 +18,12 @@ const CALLS_FOR_ONE: u64 = 1000;
 pub struct Run {
     /// The build of the Rust, where it is there.
     build: Option<Build>,
-    /// One for each call that only reads, then that of `map`.
+    /// One for each call.
     pub tallies: Vec<Tally>,
     /// The stores on which calls were made, and how many of them are well formed.
     pub stores: u64,
     pub well_formed: u64,
-    /// How often a call that only reads left other slices.
+    /// How often the calls on a store left other slices, where none may.
     pub written: u64,
     /// The first differences in words.
     pub shown: Vec<String>,
@@ -29,34 +31,31 @@ pub struct Run {
 
 impl Run {
     pub fn new(build: Option<Build>) -> Self {
-        let reads = CALLS.iter().map(|call| &call.named);
-        Run {
-            build,
-            tallies: reads.chain([map::named(build)]).map(Tally::new).collect(),
-            stores: 0,
-            well_formed: 0,
-            written: 0,
-            shown: Vec::new(),
-        }
+        let tallies = CALLS.iter().map(|call| Tally::new(call, build)).collect();
+        Run { build, tallies, stores: 0, well_formed: 0, written: 0, shown: Vec::new() }
     }
 
-    /// Whether each call was made this often on roots of well-formed stores.
+    /// Whether each call was made this often, times its own number, where the Rust may be run.
     pub fn has(&self, count: u64) -> bool {
-        self.tallies.iter().all(|tally| tally.on_roots >= count)
+        self.tallies.iter().all(|tally| tally.runs >= count * tally.call.times)
     }
 
-    /// Makes each call that only reads, and keeps its differences with what is said of the store.
-    pub fn judge(&mut self, tried: &Tried, (root, va): (u64, u64), store: &str) {
+    /// Makes each call this often, times its own number, on a store, and keeps what is different with what is said of it.
+    pub fn judge(&mut self, tried: &mut Tried, inputs: &Inputs, calls: u64, random: &mut Random, store: &str) {
+        self.stores += 1;
+        self.well_formed += u64::from(tried.well_formed);
         for (place, call) in CALLS.iter().enumerate() {
-            let told = read::judge(call, &mut self.tallies[place], tried, (root, va));
-            self.show(told, store);
+            for _ in 0..calls * call.times {
+                tried.vary(call, random);
+                let told = judge(&mut self.tallies[place], tried, (call.any)(inputs, random), self.build);
+                self.show(told, store);
+            }
+            tried.restore();
         }
-    }
-
-    /// Calls `map`, and keeps its differences with what is said of the store.
-    pub fn judge_map(&mut self, mapped: &mut Mapped, arguments: &Arguments, store: &str) {
-        let told = map::judge(&mut self.tallies[CALLS.len()], mapped, arguments, self.build);
-        self.show(told, store);
+        for side in tried.written() {
+            self.written += 1;
+            self.show(vec![format!("{side} wrote to the store")], store);
+        }
     }
 
     /// Keeps the first differences, with what is said of the store.
@@ -65,14 +64,6 @@ impl Run {
             if self.shown.len() < SHOWN {
                 self.shown.push(format!("{text} ({store})"));
             }
-        }
-    }
-
-    /// Counts slices that a call has changed.
-    pub fn count_written(&mut self, side: &str, store: &str) {
-        self.written += 1;
-        if self.shown.len() < SHOWN {
-            self.shown.push(format!("{side} wrote to the store ({store})"));
         }
     }
 
@@ -85,12 +76,12 @@ impl Run {
     pub fn missed(&self, count: u64) -> Vec<String> {
         let mut missed = Vec::new();
         for tally in &self.tallies {
-            let refusals = tally.named.refusals.iter().map(|number| format!("refused with {number}"));
-            let differences = tally.named.differences.iter().map(|name| name.to_string());
+            let refusals = tally.call.refusals.iter().map(|number| format!("refused with {number}"));
+            let differences = tally.differences.iter().map(|name| name.to_string());
             let listed = tally.listed.iter().filter(|_| original::IS_THERE);
             for (name, &met) in refusals.zip(&tally.refused).chain(differences.zip(listed)) {
                 if met < count / CALLS_FOR_ONE {
-                    missed.push(format!("{}: {name}: {met}", tally.named.name));
+                    missed.push(format!("{}: {name}: {met}", tally.call.name));
                 }
             }
         }

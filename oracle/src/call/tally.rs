@@ -1,20 +1,22 @@
 //! What is counted for one call.
 
-use crate::answer::Answer;
-use crate::archive::Reply;
-use crate::call::sides::Named;
+use crate::answer::{Answer, Build};
+use crate::archive::{Numbers, Reply};
+use crate::call::list::Call;
 use crate::check::proved::reply;
 use crate::listed::Listed;
 
 pub struct Tally {
-    pub named: &'static Named,
+    pub call: &'static Call,
+    /// The names of what is listed for the call in this build.
+    pub differences: Vec<&'static str>,
     pub calls: u64,
     /// How often the model answers.
     pub answered: u64,
     /// How often the model refuses, for each number of the call.
     pub refused: Vec<u64>,
-    /// The calls on a root of a well-formed store, for which the Rust is run where it is there.
-    pub on_roots: u64,
+    /// The calls for which the Rust may be run, and is run where it is there.
+    pub runs: u64,
     pub equal: u64,
     /// For each listed difference of the call, how often it is met.
     pub listed: Vec<u64>,
@@ -24,15 +26,19 @@ pub struct Tally {
 }
 
 impl Tally {
-    pub fn new(named: &'static Named) -> Self {
-        let (refused, listed) = (vec![0; named.refusals.len()], vec![0; named.differences.len()]);
-        Tally { named, calls: 0, answered: 0, refused, on_roots: 0, equal: 0, listed, unlisted: 0, wrong: 0 }
+    pub fn new(call: &'static Call, build: Option<Build>) -> Self {
+        let mut differences = call.differences.to_vec();
+        if build == Some(Build::Checked) {
+            differences.extend(call.when_checked);
+        }
+        let (refused, listed) = (vec![0; call.refusals.len()], vec![0; differences.len()]);
+        Tally { call, differences, calls: 0, answered: 0, refused, runs: 0, equal: 0, listed, unlisted: 0, wrong: 0 }
     }
 
     /// Counts a call and tells where ours is not what the model says; `kept` is whether the slices are as they must be.
     pub fn against_the_model(
         &mut self,
-        with: &str,
+        numbers: Numbers,
         ours: &Reply,
         model: Result<u64, u64>,
         kept: bool,
@@ -45,13 +51,13 @@ impl Tally {
         }
         self.wrong += 1;
         let slices = if kept { "" } else { ", and other slices" };
-        Some(format!("{}({with}): ours {ours}, the model {model}{slices}", self.named.name))
+        Some(format!("{}: ours {ours}, the model {model}{slices}", self.with(numbers)))
     }
 
     /// Equal where nothing is listed, and exactly as listed elsewhere; `same` is whether equal answers left equal pages.
     pub fn against_the_rust(
         &mut self,
-        with: &str,
+        numbers: Numbers,
         (ours, rust): (Answer, Answer),
         listed: Option<Listed>,
         same: bool,
@@ -63,24 +69,30 @@ impl Tally {
                 self.unlisted += 1;
                 let pages = if same { "" } else { ", and other pages" };
                 let there = listed.map_or(String::new(), |Listed { name, .. }| format!(", listed there \"{name}\""));
-                return Some(format!("{}({with}): ours {ours}, the Rust {rust}{pages}{there}", self.named.name));
+                return Some(format!("{}: ours {ours}, the Rust {rust}{pages}{there}", self.with(numbers)));
             }
         }
         None
+    }
+
+    /// The call with the numbers that it has.
+    fn with(&self, numbers: Numbers) -> String {
+        let numbers: Vec<String> = numbers[..self.call.numbers].iter().map(|number| format!("{number:#x}")).collect();
+        format!("{}({})", self.call.name, numbers.join(", "))
     }
 
     fn count(&mut self, answer: Result<u64, u64>) {
         match answer {
             Ok(_) => self.answered += 1,
             Err(number) => {
-                let place = self.named.refusals.iter().position(|&refusal| refusal == number);
+                let place = self.call.refusals.iter().position(|&refusal| refusal == number);
                 self.refused[place.expect("a refusal of the call")] += 1;
             }
         }
     }
 
     fn count_listed(&mut self, name: &str) {
-        let place = self.named.differences.iter().position(|&difference| difference == name);
+        let place = self.differences.iter().position(|&difference| difference == name);
         self.listed[place.expect("a listed difference of the call")] += 1;
     }
 }

@@ -1,8 +1,9 @@
 //! The proved check and set-up, on lent slices.
 
-use crate::archive::{ronakvesh_check, ronakvesh_set_up, Reply};
+use crate::archive::{self, Reply, Slices, NO_NUMBERS};
 use crate::model::Store;
 use std::fmt;
+use std::ptr::from_ref;
 
 /// The answer, or the refusal's number; a refusal is to carry the value 0.
 pub type Answer = Result<u64, u64>;
@@ -29,37 +30,20 @@ impl<'a> Lent<'a> {
 
 /// What our check says.
 pub fn check(lent: &Lent) -> Reply {
-    let Lent { words, table_marks, bytes, frame_marks } = lent;
-    // SAFETY: each pointer comes with the length of its slice, and the check only reads.
-    unsafe {
-        ronakvesh_check(
-            words.as_ptr(),
-            words.len(),
-            table_marks.as_ptr(),
-            table_marks.len(),
-            bytes.as_ptr(),
-            bytes.len(),
-            frame_marks.as_ptr(),
-            frame_marks.len(),
-        )
-    }
+    let slices = Slices {
+        words: from_ref(lent.words).cast_mut(),
+        table_marks: from_ref(lent.table_marks).cast_mut(),
+        bytes: from_ref(lent.bytes).cast_mut(),
+        frame_marks: from_ref(lent.frame_marks).cast_mut(),
+    };
+    // SAFETY: the slices are lent, and the check only reads.
+    unsafe { archive::check(slices, NO_NUMBERS) }
 }
 
 /// What our set-up says, and writes.
 pub fn set_up(words: &mut [u64], table_marks: &mut [u32], bytes: &mut [u8], frame_marks: &mut [u32]) -> Reply {
-    // SAFETY: each pointer comes with the length of its slice, and the slices do not overlap.
-    unsafe {
-        ronakvesh_set_up(
-            words.as_mut_ptr(),
-            words.len(),
-            table_marks.as_mut_ptr(),
-            table_marks.len(),
-            bytes.as_mut_ptr(),
-            bytes.len(),
-            frame_marks.as_mut_ptr(),
-            frame_marks.len(),
-        )
-    }
+    // SAFETY: the slices are lent to be written, so they do not overlap.
+    unsafe { archive::set_up(Slices { words, table_marks, bytes, frame_marks }, NO_NUMBERS) }
 }
 
 /// The reply that says a model's answer.

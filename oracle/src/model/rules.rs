@@ -63,7 +63,7 @@ fn w5(store: &Store) -> bool {
 }
 
 fn is_zero(words: &[u64]) -> bool {
-    words.iter().all(|&word| word == 0)
+    words.iter().fold(0, |bits, word| bits | word) == 0
 }
 
 /// Whether a word is 0, or 0x4000_0000 + 1024t + 1 for a t < T whose mark names this word.

@@ -1,0 +1,121 @@
+//! The calls that are compared, each with its numbers, its three sides and where the Rust is not followed.
+
+use crate::answer::{Answer, Build};
+use crate::archive::{self, Numbers, Reply, Slices, NO_NUMBERS};
+use crate::call::inputs::{self, Inputs};
+use crate::call::listed;
+use crate::call::{map, original, uvmcreate};
+use crate::listed::Listed;
+use crate::model::calls;
+use crate::model::numbers::ROOT;
+use crate::model::Store;
+use crate::random::Random;
+
+/// What a call may write to.
+#[derive(Clone, Copy, PartialEq, Eq)]
+pub enum Writes {
+    Nothing,
+    /// Words and table marks.
+    Tables,
+}
+
+/// What is listed for a call on a store, with its numbers and what the model says.
+pub type Rule = fn(Build, &Store, Numbers, Result<u64, u64>) -> Option<Listed>;
+
+/// A call on a store.
+pub struct Call {
+    pub name: &'static str,
+    /// How many numbers it has.
+    pub numbers: usize,
+    /// How often it is made where others are made once.
+    pub times: u64,
+    pub writes: Writes,
+    /// Numbers to make it with.
+    pub any: fn(&Inputs, &mut Random) -> Numbers,
+    /// Gives the tables of a well-formed store other marks before each call, so that it stays well formed.
+    pub vary: Option<fn(&mut Store, &mut Random)>,
+    pub ours: unsafe fn(Slices, Numbers) -> Reply,
+    pub model: fn(&mut Store, Numbers) -> Result<u64, u64>,
+    /// Whether the Rust may be run on a well-formed store: elsewhere it would touch memory that is not its own.
+    pub may_run: fn(&Store, Numbers) -> bool,
+    pub rust: fn(Numbers) -> Answer,
+    /// The numbers of its refusals.
+    pub refusals: &'static [u64],
+    /// The names of what is listed, and of what is listed only where sums are checked.
+    pub differences: &'static [&'static str],
+    pub when_checked: &'static [&'static str],
+    pub listed: Rule,
+}
+
+/// Every call that is compared.
+pub static CALLS: [Call; 4] = [
+    Call {
+        name: "pgt_translate",
+        numbers: 2,
+        times: 1,
+        writes: Writes::Nothing,
+        any: inputs::root_and_address,
+        vary: None,
+        ours: archive::pgt_translate,
+        model: |store, [root, va, ..]| calls::pgt_translate(store, root, va),
+        may_run: is_root,
+        rust: original::pgt_translate,
+        refusals: &[1, 2, 3, 6, 11, 12],
+        differences: &listed::TRANSLATIONS,
+        when_checked: &[],
+        listed: listed::translation,
+    },
+    Call {
+        name: "as_satp",
+        numbers: 1,
+        times: 1,
+        writes: Writes::Nothing,
+        any: inputs::root,
+        vary: None,
+        ours: archive::as_satp,
+        model: |store, [root, ..]| calls::as_satp(store, root),
+        may_run: is_root,
+        rust: original::as_satp,
+        refusals: &[1, 2, 3],
+        differences: &[],
+        when_checked: &[],
+        listed: listed::nothing,
+    },
+    Call {
+        name: "uvmcreate",
+        numbers: 0,
+        times: 1,
+        writes: Writes::Tables,
+        any: |_, _| NO_NUMBERS,
+        vary: Some(uvmcreate::vary),
+        ours: archive::uvmcreate,
+        model: |store, _| calls::uvmcreate(store),
+        may_run: |_, _| true,
+        rust: original::uvmcreate,
+        refusals: &[1, 2, 17],
+        differences: &[uvmcreate::NONE_FREE],
+        when_checked: &[],
+        listed: uvmcreate::creation,
+    },
+    Call {
+        name: "map",
+        numbers: 5,
+        times: 2,
+        writes: Writes::Tables,
+        any: map::inputs::any,
+        vary: None,
+        ours: archive::map,
+        model: |store, [root, va, pa, size, permissions]| calls::map(store, root, va, pa, size, permissions),
+        may_run: is_root,
+        rust: original::map,
+        refusals: &[1, 2, 3, 6, 8, 9, 10, 14, 17],
+        differences: &map::listed::DIFFERENCES,
+        when_checked: &[map::listed::EARLY],
+        listed: map::listed::mapping,
+    },
+];
+
+/// Whether the first number is a root.
+fn is_root(store: &Store, [root, ..]: Numbers) -> bool {
+    store.table_marks.get(root as usize) == Some(&ROOT)
+}

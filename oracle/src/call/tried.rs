@@ -1,0 +1,114 @@
+//! The store on which calls are made, three times over.
+
+use crate::archive::Slices;
+use crate::call::list::Call;
+use crate::call::original;
+use crate::model::Store;
+use crate::random::Random;
+
+/// A store as it was, and as the model and ours leave it. Where it is well formed, the Rust has it too.
+pub struct Tried {
+    pub before: Store,
+    pub model: Store,
+    ours: Store,
+    pub well_formed: bool,
+    /// The table marks that the store was taken with.
+    marks: Vec<u32>,
+}
+
+impl Tried {
+    /// No store yet.
+    pub fn new() -> Self {
+        let nothing = || Store::zeros(0, 0);
+        Tried { before: nothing(), model: nothing(), ours: nothing(), well_formed: false, marks: Vec::new() }
+    }
+
+    /// Takes a store three times over, and lends it to the Rust where it is well formed.
+    pub fn take(&mut self, store: &Store, well_formed: bool) {
+        for copy in [&mut self.before, &mut self.model, &mut self.ours] {
+            copy.bytes.clone_from(&store.bytes);
+        }
+        original::hold_bytes(store);
+        self.take_changed(store, well_formed);
+    }
+
+    /// Takes a store that has the bytes of the one before.
+    pub fn take_changed(&mut self, store: &Store, well_formed: bool) {
+        for copy in [&mut self.before, &mut self.model, &mut self.ours] {
+            copy.words.clone_from(&store.words);
+            copy.table_marks.clone_from(&store.table_marks);
+            copy.frame_marks.clone_from(&store.frame_marks);
+        }
+        self.well_formed = well_formed;
+        self.marks.clone_from(&store.table_marks);
+        if well_formed {
+            original::hold_words(store);
+        }
+    }
+
+    /// Gives the store the other table marks that a call is to be made on.
+    pub fn vary(&mut self, call: &Call, random: &mut Random) {
+        if let Some(vary) = call.vary.filter(|_| self.well_formed) {
+            vary(&mut self.before, random);
+            self.share_marks();
+        }
+    }
+
+    /// Gives the store the table marks back that it was taken with.
+    pub fn restore(&mut self) {
+        if self.before.table_marks != self.marks {
+            self.before.table_marks.copy_from_slice(&self.marks);
+            self.share_marks();
+        }
+    }
+
+    /// Gives every side the table marks of the store as it was.
+    fn share_marks(&mut self) {
+        for copy in [&mut self.model, &mut self.ours] {
+            copy.table_marks.copy_from_slice(&self.before.table_marks);
+        }
+        original::set_free(&self.before);
+    }
+
+    /// The store that ours may write to.
+    pub fn lent(&mut self) -> Slices {
+        let Store { words, table_marks, bytes, frame_marks } = &mut self.ours;
+        Slices {
+            words: &mut **words,
+            table_marks: &mut **table_marks,
+            bytes: &mut **bytes,
+            frame_marks: &mut **frame_marks,
+        }
+    }
+
+    /// Whether words and table marks are as they must be: ours as the model has them, and after a refusal as they were.
+    pub fn is_right(&self, answered: bool) -> bool {
+        same_tables(&self.ours, &self.model) && (answered || same_tables(&self.model, &self.before))
+    }
+
+    /// Whether the Rust has left the words that ours has.
+    pub fn is_rusts(&self) -> bool {
+        original::holds_words(&self.ours)
+    }
+
+    /// Puts words and table marks back.
+    pub fn put_back(&mut self) {
+        for store in [&mut self.model, &mut self.ours] {
+            store.words.copy_from_slice(&self.before.words);
+            store.table_marks.copy_from_slice(&self.before.table_marks);
+        }
+    }
+
+    /// Which sides have written to the store where they may not, after all calls on it.
+    pub fn written(&self) -> impl Iterator<Item = &'static str> {
+        let ours = (self.ours != self.before).then_some("ours");
+        let model = (self.model != self.before).then_some("the model");
+        let rust = (self.well_formed && !original::holds(&self.before)).then_some("the Rust");
+        ours.into_iter().chain(model).chain(rust)
+    }
+}
+
+/// Whether two stores have the same words and table marks.
+fn same_tables(one: &Store, other: &Store) -> bool {
+    one.words == other.words && one.table_marks == other.table_marks
+}
