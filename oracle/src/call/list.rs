@@ -47,6 +47,14 @@ pub struct Call {
     pub listed: Rule,
 }
 
+impl Call {
+    /// The call in words, with the numbers that it has.
+    pub fn with(&self, numbers: Numbers) -> String {
+        let numbers: Vec<String> = numbers[..self.numbers].iter().map(|number| format!("{number:#x}")).collect();
+        format!("{}({})", self.name, numbers.join(", "))
+    }
+}
+
 /// Every call that is compared.
 pub static CALLS: [Call; 4] = [
     Call {

@@ -51,7 +51,7 @@ impl Tally {
         }
         self.wrong += 1;
         let slices = if kept { "" } else { ", and other slices" };
-        Some(format!("{}: ours {ours}, the model {model}{slices}", self.with(numbers)))
+        Some(format!("{}: ours {ours}, the model {model}{slices}", self.call.with(numbers)))
     }
 
     /// Equal where nothing is listed, and exactly as listed elsewhere; `same` is whether equal answers left equal pages.
@@ -69,16 +69,10 @@ impl Tally {
                 self.unlisted += 1;
                 let pages = if same { "" } else { ", and other pages" };
                 let there = listed.map_or(String::new(), |Listed { name, .. }| format!(", listed there \"{name}\""));
-                return Some(format!("{}: ours {ours}, the Rust {rust}{pages}{there}", self.with(numbers)));
+                return Some(format!("{}: ours {ours}, the Rust {rust}{pages}{there}", self.call.with(numbers)));
             }
         }
         None
-    }
-
-    /// The call with the numbers that it has.
-    fn with(&self, numbers: Numbers) -> String {
-        let numbers: Vec<String> = numbers[..self.call.numbers].iter().map(|number| format!("{number:#x}")).collect();
-        format!("{}({})", self.call.name, numbers.join(", "))
     }
 
     fn count(&mut self, answer: Result<u64, u64>) {
