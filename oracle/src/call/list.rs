@@ -1,4 +1,5 @@
-//! The calls that are compared, each with its numbers, its three sides and where the Rust is not followed.
+//! The calls that are compared, each with its numbers, its three sides and where the Rust is not followed. A call is added
+//! here; archive.rs declares ours, original.rs has the Rust's and no_original.rs its name.
 
 use crate::answer::{Answer, Build};
 use crate::archive::{self, Numbers, Reply, Slices, NO_NUMBERS};
