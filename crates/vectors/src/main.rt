@@ -1,4 +1,5 @@
 // Replays the calls of list.rt, whose answers are the Rust's, and prints how many come out the same here.
+mod calls;
 mod digest;
 mod list;
 mod replay;

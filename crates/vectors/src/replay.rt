@@ -1,13 +1,9 @@
 // The rows, each made as a call here and held to what it says.
+use super::calls;
 use super::digest;
 use super::list;
 use super::rows;
 use super::say;
-use address::PhysicalAddress;
-use address::Reply;
-use address::VirtualAddress;
-use page_table_entry::EntryAnswer;
-use page_table_entry::PageTableEntry;
 ghost use Prim.Native.Nat.{_+_, _^_, _<_, _≤_};
 
 const EQUAL: u64 = 0;
@@ -25,71 +21,6 @@ pub struct Found {
     pub wrong: u64,
 }
 
-fn entry_reply(a: EntryAnswer) -> Reply {
-    match a {
-        EntryAnswer::Built(e) => Reply {
-            number: 0,
-            value: e.0,
-        },
-        EntryAnswer::Refused(number) => Reply { number, value: 0 },
-    }
-}
-
-// What the call of a row says, and writes.
-fn made(
-    row: usize,
-    words: &mut [u64],
-    tmarks: &mut [u32],
-    bytes: &mut [u8],
-    fmarks: &mut [u32],
-) -> Reply {
-    let call = rows::call(row);
-    let a = rows::argument(row, 0);
-    let b = rows::argument(row, 1);
-    if call == 1 {
-        return address::number_reply(rounding::page_round_up(a));
-    }
-    if call == 2 {
-        return address::number_reply(VirtualAddress(a).page_num(b));
-    }
-    if call == 3 {
-        return entry_reply(PageTableEntry::write_perm(PhysicalAddress(a), b));
-    }
-    if call == 4 {
-        return store::answer_reply(map::uvmcreate(words, tmarks, bytes, fmarks));
-    }
-    if call == 5 {
-        let pa = PhysicalAddress(rows::argument(row, 2));
-        let size = rows::argument(row, 3);
-        let perm = rows::argument(row, 4);
-        return store::answer_reply(map::map(
-            words,
-            tmarks,
-            bytes,
-            fmarks,
-            a,
-            VirtualAddress(b),
-            pa,
-            size,
-            perm,
-        ));
-    }
-    if call == 6 {
-        return store::answer_reply(walk::pgt_translate(
-            words,
-            tmarks,
-            bytes,
-            fmarks,
-            a,
-            VirtualAddress(b),
-        ));
-    }
-    if call == 7 {
-        return store::answer_reply(walk::as_satp(words, tmarks, bytes, fmarks, a));
-    }
-    store::answer_reply(store::set_up(words, tmarks, bytes, fmarks))
-}
-
 // Makes the call of a row, and says what comes of it; where it is not as it must be, it is printed.
 fn kind(
     row: usize,
@@ -98,7 +29,7 @@ fn kind(
     bytes: &mut [u8],
     fmarks: &mut [u32],
 ) -> u64 {
-    let reply = made(row, words, tmarks, bytes, fmarks);
+    let reply = calls::made(row, words, tmarks, bytes, fmarks);
     let after = digest::digest(words);
     if !rows::agrees(row, reply, after) {
         say::wrong(row, reply, after);

@@ -18,6 +18,14 @@ pub fn call(row: usize) -> u64 {
     number(row, 0)
 }
 
+// Whether the call needs no store.
+pub fn is_helper(row: usize) -> bool {
+    if call(row) == 0 {
+        return false;
+    }
+    call(row) <= 3
+}
+
 // A number of the call, from 0 on.
 pub fn argument(row: usize, place: usize) -> u64 {
     if 5 <= place {

@@ -1,0 +1,88 @@
+// The call of a row, made here.
+use super::rows;
+use address::PhysicalAddress;
+use address::Reply;
+use address::VirtualAddress;
+use page_table_entry::EntryAnswer;
+use page_table_entry::PageTableEntry;
+use store::Answer;
+
+fn entry_reply(a: EntryAnswer) -> Reply {
+    match a {
+        EntryAnswer::Built(e) => Reply {
+            number: 0,
+            value: e.0,
+        },
+        EntryAnswer::Refused(number) => Reply { number, value: 0 },
+    }
+}
+
+// What the helper of a row says.
+fn helper(row: usize) -> Reply {
+    let call = rows::call(row);
+    let a = rows::argument(row, 0);
+    let b = rows::argument(row, 1);
+    if call == 1 {
+        return address::number_reply(rounding::page_round_up(a));
+    }
+    if call == 2 {
+        return address::number_reply(VirtualAddress(a).page_num(b));
+    }
+    entry_reply(PageTableEntry::write_perm(PhysicalAddress(a), b))
+}
+
+// What map says at a row, and writes.
+fn mapped(
+    row: usize,
+    words: &mut [u64],
+    tmarks: &mut [u32],
+    bytes: &[u8],
+    fmarks: &[u32],
+) -> Answer {
+    let root = rows::argument(row, 0);
+    let va = VirtualAddress(rows::argument(row, 1));
+    let pa = PhysicalAddress(rows::argument(row, 2));
+    let size = rows::argument(row, 3);
+    let perm = rows::argument(row, 4);
+    map::map(words, tmarks, bytes, fmarks, root, va, pa, size, perm)
+}
+
+// What the call on the store says, and writes; where it is none of the others, a fresh store is set up.
+fn on_store(
+    row: usize,
+    words: &mut [u64],
+    tmarks: &mut [u32],
+    bytes: &mut [u8],
+    fmarks: &mut [u32],
+) -> Answer {
+    let call = rows::call(row);
+    let root = rows::argument(row, 0);
+    if call == 4 {
+        return map::uvmcreate(words, tmarks, bytes, fmarks);
+    }
+    if call == 5 {
+        return mapped(row, words, tmarks, bytes, fmarks);
+    }
+    if call == 6 {
+        let va = VirtualAddress(rows::argument(row, 1));
+        return walk::pgt_translate(words, tmarks, bytes, fmarks, root, va);
+    }
+    if call == 7 {
+        return walk::as_satp(words, tmarks, bytes, fmarks, root);
+    }
+    store::set_up(words, tmarks, bytes, fmarks)
+}
+
+// What the call of a row says, and writes.
+pub fn made(
+    row: usize,
+    words: &mut [u64],
+    tmarks: &mut [u32],
+    bytes: &mut [u8],
+    fmarks: &mut [u32],
+) -> Reply {
+    if rows::is_helper(row) {
+        return helper(row);
+    }
+    store::answer_reply(on_store(row, words, tmarks, bytes, fmarks))
+}
