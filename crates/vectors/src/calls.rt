@@ -1,21 +1,13 @@
 // The call of a row, made here.
+use super::replies::Reply;
+use super::replies::answer_reply;
+use super::replies::entry_reply;
+use super::replies::number_reply;
 use super::rows;
 use address::PhysicalAddress;
-use address::Reply;
 use address::VirtualAddress;
-use page_table_entry::EntryAnswer;
 use page_table_entry::PageTableEntry;
 use store::Answer;
-
-fn entry_reply(a: EntryAnswer) -> Reply {
-    match a {
-        EntryAnswer::Built(e) => Reply {
-            number: 0,
-            value: e.0,
-        },
-        EntryAnswer::Refused(number) => Reply { number, value: 0 },
-    }
-}
 
 // What the helper of a row says.
 fn helper(row: usize) -> Reply {
@@ -23,10 +15,10 @@ fn helper(row: usize) -> Reply {
     let a = rows::argument(row, 0);
     let b = rows::argument(row, 1);
     if call == 1 {
-        return address::number_reply(rounding::page_round_up(a));
+        return number_reply(rounding::page_round_up(a));
     }
     if call == 2 {
-        return address::number_reply(VirtualAddress(a).page_num(b));
+        return number_reply(VirtualAddress(a).page_num(b));
     }
     entry_reply(PageTableEntry::write_perm(PhysicalAddress(a), b))
 }
@@ -84,5 +76,5 @@ pub fn made(
     if rows::is_helper(row) {
         return helper(row);
     }
-    store::answer_reply(on_store(row, words, tmarks, bytes, fmarks))
+    answer_reply(on_store(row, words, tmarks, bytes, fmarks))
 }

@@ -3,6 +3,7 @@ mod calls;
 mod digest;
 mod list;
 mod replay;
+mod replies;
 mod rows;
 mod say;
 

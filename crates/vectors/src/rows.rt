@@ -1,6 +1,6 @@
 // What a row of list.rt says.
 use super::list;
-use address::Reply;
+use super::replies::Reply;
 
 // The number in a column; 0 where there is none.
 fn number(row: usize, column: usize) -> u64 {

@@ -1,5 +1,5 @@
 // What is printed.
-use address::Reply;
+use super::replies::Reply;
 use libc::STDOUT_FILENO;
 
 fn put(text: &[u8]) {
