@@ -66,22 +66,44 @@ pub type Numbers = [u64; 5];
 /// For a call that has no numbers.
 pub const NO_NUMBERS: Numbers = [0; 5];
 
-/// The four slices of a store, as they are lent to a call.
+/// The four slices of a store, as they are lent to a call, and the kernel's buffer, empty where the call has none.
 #[derive(Clone, Copy)]
 pub struct Slices {
     pub words: *mut [u64],
     pub table_marks: *mut [u32],
     pub bytes: *mut [u8],
     pub frame_marks: *mut [u32],
+    pub buffer: *mut [u8],
 }
 
-/// Declares calls, each by the name that it has here, its own name and the names of its numbers. A lent slice goes to it
-/// as a pointer to the first element, then how many elements there are.
+/// The type in which a number is handed to a call: `u64`, or the one that is named.
+macro_rules! type_of {
+    () => {
+        u64
+    };
+    ($kind:ident) => {
+        $kind
+    };
+}
+
+/// A number as it is handed to a call.
+macro_rules! handed {
+    ($number:ident) => {
+        $number
+    };
+    ($number:ident bool) => {
+        $number != 0
+    };
+}
+
+/// Declares calls, each by the name that it has here, its own name and the names of its numbers; `name: bool` is handed
+/// over as whether it is other than 0. Where the call has a buffer, its name comes last, after a `;`. A lent slice goes
+/// to the call as a pointer to the first element, then how many elements there are.
 ///
 /// # Safety of each
 /// The slices are there and do not overlap, and those that the call writes to may be written.
 macro_rules! calls {
-    ($($name:ident = $export:ident($($number:ident),*);)*) => {
+    ($($name:ident = $export:ident($($number:ident $(: $kind:ident)?),* $(; $buffer:ident)?);)*) => {
         unsafe extern "C" {
             $(fn $export(
                 words: *mut u64,
@@ -92,12 +114,14 @@ macro_rules! calls {
                 bytes_length: usize,
                 frame_marks: *mut u32,
                 frame_marks_length: usize,
-                $($number: u64),*
+                $($number: type_of!($($kind)?),)*
+                $($buffer: *mut u8, buffer_length: usize,)?
             ) -> Reply;)*
         }
 
         $(pub unsafe fn $name(slices: Slices, [$($number,)* ..]: Numbers) -> Reply {
-            let Slices { words, table_marks, bytes, frame_marks } = slices;
+            let Slices { words, table_marks, bytes, frame_marks, .. } = slices;
+            $(let $buffer = slices.buffer;)?
             // SAFETY: as above; each pointer goes with the length of its slice.
             unsafe {
                 $export(
@@ -109,7 +133,8 @@ macro_rules! calls {
                     bytes.len(),
                     frame_marks.cast(),
                     frame_marks.len(),
-                    $($number),*
+                    $(handed!($number $($kind)?),)*
+                    $($buffer.cast(), $buffer.len(),)?
                 )
             }
         })*

@@ -2,35 +2,30 @@
 
 use crate::answer::Build;
 use crate::archive::Numbers;
-use crate::call::list::Writes;
-use crate::call::original;
 use crate::call::tally::Tally;
 use crate::call::tried::Tried;
 
 /// Compares ours with the model and with the Rust, tells each difference, and puts the store back.
 pub fn judge(tally: &mut Tally, tried: &mut Tried, numbers: Numbers, build: Option<Build>) -> Vec<String> {
     let call = tally.call;
-    let writes = call.writes != Writes::Nothing;
-    // SAFETY: the slices are those of a store that nothing else has, so they may be written and do not overlap.
+    // SAFETY: the slices are those of a store and a buffer that nothing else has; they may be written and do not overlap.
     let ours = unsafe { (call.ours)(tried.lent(), numbers) };
-    let model = (call.model)(&mut tried.model, numbers);
-    let right = !writes || tried.is_right(model.is_ok());
+    let model = (call.model)(&mut tried.model, numbers, &mut tried.buffer.model);
+    let right = tried.is_right(call.writes, model.is_ok());
     let mut told = Vec::new();
     told.extend(tally.against_the_model(numbers, &ours, model, right));
     if tried.well_formed && (call.may_run)(&tried.before, numbers) {
         tally.runs += 1;
         if let Some(build) = build {
-            let rust = (call.rust)(numbers);
+            let rust = (call.rust)(numbers, &mut tried.buffer.rust);
             let listed = (call.listed)(build, &tried.before, numbers, model);
-            let same = !writes || listed.is_some() || tried.is_rusts();
+            let same = listed.is_some() || tried.is_rusts(call.writes);
             told.extend(tally.against_the_rust(numbers, (ours.into(), rust), listed, same));
-            if writes {
-                original::hold_words(&tried.before);
-            }
+            tried.hold_again(call.writes);
         }
     }
-    if !right || writes && model.is_ok() {
-        tried.put_back();
+    if !right || model.is_ok() {
+        tried.put_back(call.writes);
     }
     told
 }

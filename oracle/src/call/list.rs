@@ -12,12 +12,15 @@ use crate::model::numbers::ROOT;
 use crate::model::Store;
 use crate::random::Random;
 
-/// What a call may write to.
+/// What a call may write to, beside its buffer.
 #[derive(Clone, Copy, PartialEq, Eq)]
 pub enum Writes {
     Nothing,
     /// Words and table marks.
     Tables,
+    /// Words, bytes and both kinds of marks.
+    #[allow(dead_code)] // for calls that take frames, give them back or write to them
+    Frames,
 }
 
 /// What is listed for a call on a store, with its numbers and what the model says.
@@ -35,11 +38,13 @@ pub struct Call {
     pub any: fn(&Inputs, &mut Random) -> Numbers,
     /// Gives the tables of a well-formed store other marks before each call, so that it stays well formed.
     pub vary: Option<fn(&mut Store, &mut Random)>,
+    /// Makes the kernel's buffer, where the call is lent one; its length is one of the numbers.
+    pub buffer: Option<fn(Numbers, &mut Random) -> Vec<u8>>,
     pub ours: unsafe fn(Slices, Numbers) -> Reply,
-    pub model: fn(&mut Store, Numbers) -> Result<u64, u64>,
+    pub model: fn(&mut Store, Numbers, &mut [u8]) -> Result<u64, u64>,
     /// Whether the Rust may be run on a well-formed store: elsewhere it would touch memory that is not its own.
     pub may_run: fn(&Store, Numbers) -> bool,
-    pub rust: fn(Numbers) -> Answer,
+    pub rust: fn(Numbers, &mut [u8]) -> Answer,
     /// The numbers of its refusals.
     pub refusals: &'static [u64],
     /// The names of what is listed, and of what is listed only where sums are checked.
@@ -65,8 +70,9 @@ pub static CALLS: [Call; 4] = [
         writes: Writes::Nothing,
         any: inputs::root_and_address,
         vary: None,
+        buffer: None,
         ours: archive::pgt_translate,
-        model: |store, [root, va, ..]| calls::pgt_translate(store, root, va),
+        model: |store, [root, va, ..], _| calls::pgt_translate(store, root, va),
         may_run: is_root,
         rust: original::pgt_translate,
         refusals: &[1, 2, 3, 6, 11, 12],
@@ -81,8 +87,9 @@ pub static CALLS: [Call; 4] = [
         writes: Writes::Nothing,
         any: inputs::root,
         vary: None,
+        buffer: None,
         ours: archive::as_satp,
-        model: |store, [root, ..]| calls::as_satp(store, root),
+        model: |store, [root, ..], _| calls::as_satp(store, root),
         may_run: is_root,
         rust: original::as_satp,
         refusals: &[1, 2, 3],
@@ -97,8 +104,9 @@ pub static CALLS: [Call; 4] = [
         writes: Writes::Tables,
         any: |_, _| NO_NUMBERS,
         vary: Some(uvmcreate::vary),
+        buffer: None,
         ours: archive::uvmcreate,
-        model: |store, _| calls::uvmcreate(store),
+        model: |store, _, _| calls::uvmcreate(store),
         may_run: |_, _| true,
         rust: original::uvmcreate,
         refusals: &[1, 2, 17],
@@ -113,8 +121,9 @@ pub static CALLS: [Call; 4] = [
         writes: Writes::Tables,
         any: map::inputs::any,
         vary: None,
+        buffer: None,
         ours: archive::map,
-        model: |store, [root, va, pa, size, permissions]| calls::map(store, root, va, pa, size, permissions),
+        model: |store, [root, va, pa, size, permissions], _| calls::map(store, root, va, pa, size, permissions),
         may_run: is_root,
         rust: original::map,
         refusals: &[1, 2, 3, 6, 8, 9, 10, 14, 17],

@@ -1,6 +1,7 @@
 //! Compares the proved calls on a store with the model and the Rust.
 
 pub mod batch;
+pub mod buffer;
 pub mod inputs;
 pub mod judge;
 pub mod list;

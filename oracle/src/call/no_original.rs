@@ -24,7 +24,7 @@ pub fn holds_words(_: &Store) -> bool {
 }
 
 /// No call of the Rust is made.
-pub fn absent(_: Numbers) -> Answer {
+pub fn absent(_: Numbers, _: &mut [u8]) -> Answer {
     unreachable!("the Rust is not there")
 }
 

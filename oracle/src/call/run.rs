@@ -47,7 +47,9 @@ impl Run {
         for (place, call) in CALLS.iter().enumerate() {
             for _ in 0..calls * call.times {
                 tried.vary(call, random);
-                let told = judge(&mut self.tallies[place], tried, (call.any)(inputs, random), self.build);
+                let numbers = (call.any)(inputs, random);
+                tried.lend(call, numbers, random);
+                let told = judge(&mut self.tallies[place], tried, numbers, self.build);
                 self.show(told, store);
             }
             tried.restore();

@@ -54,7 +54,7 @@ impl Tally {
         Some(format!("{}: ours {ours}, the model {model}{slices}", self.call.with(numbers)))
     }
 
-    /// Equal where nothing is listed, and exactly as listed elsewhere; `same` is whether equal answers left equal pages.
+    /// Equal where nothing is listed, and exactly as listed elsewhere; `same` is whether equal answers left equal bytes.
     pub fn against_the_rust(
         &mut self,
         numbers: Numbers,
@@ -67,9 +67,9 @@ impl Tally {
             Some(rule) if ours != rust && ours == rule.ours && rust == rule.rust => self.count_listed(rule.name),
             _ => {
                 self.unlisted += 1;
-                let pages = if same { "" } else { ", and other pages" };
+                let bytes = if same { "" } else { ", and other bytes" };
                 let there = listed.map_or(String::new(), |Listed { name, .. }| format!(", listed there \"{name}\""));
-                return Some(format!("{}: ours {ours}, the Rust {rust}{pages}{there}", self.call.with(numbers)));
+                return Some(format!("{}: ours {ours}, the Rust {rust}{bytes}{there}", self.call.with(numbers)));
             }
         }
         None

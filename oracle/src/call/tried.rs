@@ -1,7 +1,8 @@
 //! The store on which calls are made, three times over.
 
-use crate::archive::Slices;
-use crate::call::list::Call;
+use crate::archive::{Numbers, Slices};
+use crate::call::buffer::Buffer;
+use crate::call::list::{Call, Writes};
 use crate::call::original;
 use crate::model::Store;
 use crate::random::Random;
@@ -11,6 +12,8 @@ pub struct Tried {
     pub before: Store,
     pub model: Store,
     ours: Store,
+    /// The buffer of the call that is made.
+    pub buffer: Buffer,
     pub well_formed: bool,
     /// The table marks that the store was taken with.
     marks: Vec<u32>,
@@ -20,7 +23,8 @@ impl Tried {
     /// No store yet.
     pub fn new() -> Self {
         let nothing = || Store::zeros(0, 0);
-        Tried { before: nothing(), model: nothing(), ours: nothing(), well_formed: false, marks: Vec::new() }
+        let (before, model, ours) = (nothing(), nothing(), nothing());
+        Tried { before, model, ours, buffer: Buffer::default(), well_formed: false, marks: Vec::new() }
     }
 
     /// Takes a store three times over, and lends it to the Rust where it is well formed.
@@ -70,7 +74,13 @@ impl Tried {
         original::set_free(&self.before);
     }
 
-    /// The store that ours may write to.
+    /// Makes the buffer that goes with the numbers of a call.
+    pub fn lend(&mut self, call: &Call, numbers: Numbers, random: &mut Random) {
+        let bytes = call.buffer.map_or(Vec::new(), |buffer| buffer(numbers, random));
+        self.buffer.take(&bytes);
+    }
+
+    /// The store and the buffer that ours may write to.
     pub fn lent(&mut self) -> Slices {
         let Store { words, table_marks, bytes, frame_marks } = &mut self.ours;
         Slices {
@@ -78,24 +88,47 @@ impl Tried {
             table_marks: &mut **table_marks,
             bytes: &mut **bytes,
             frame_marks: &mut **frame_marks,
+            buffer: &mut *self.buffer.ours,
         }
     }
 
-    /// Whether words and table marks are as they must be: ours as the model has them, and after a refusal as they were.
-    pub fn is_right(&self, answered: bool) -> bool {
-        same_tables(&self.ours, &self.model) && (answered || same_tables(&self.model, &self.before))
+    /// Whether what a call may write to is as it must be: ours as the model has it, and after a refusal as it was.
+    pub fn is_right(&self, writes: Writes, answered: bool) -> bool {
+        let Tried { before, model, ours, buffer, .. } = self;
+        same(writes, ours, model) && (answered || same(writes, model, before)) && buffer.is_right(answered)
     }
 
-    /// Whether the Rust has left the words that ours has.
-    pub fn is_rusts(&self) -> bool {
-        original::holds_words(&self.ours)
+    /// Whether the Rust has left the words and bytes that ours has, as far as the call may write to them.
+    pub fn is_rusts(&self, writes: Writes) -> bool {
+        let pages = match writes {
+            Writes::Nothing => true,
+            Writes::Tables => original::holds_words(&self.ours),
+            Writes::Frames => original::holds(&self.ours),
+        };
+        pages && self.buffer.is_rusts()
     }
 
-    /// Puts words and table marks back.
-    pub fn put_back(&mut self) {
+    /// Lends the Rust the store as it was, as far as the call may have written to it.
+    pub fn hold_again(&self, writes: Writes) {
+        if writes == Writes::Frames {
+            original::hold_bytes(&self.before);
+        }
+        if writes != Writes::Nothing {
+            original::hold_words(&self.before);
+        }
+    }
+
+    /// Puts back what the call may have written to.
+    pub fn put_back(&mut self, writes: Writes) {
         for store in [&mut self.model, &mut self.ours] {
-            store.words.copy_from_slice(&self.before.words);
-            store.table_marks.copy_from_slice(&self.before.table_marks);
+            if writes == Writes::Frames {
+                store.bytes.copy_from_slice(&self.before.bytes);
+                store.frame_marks.copy_from_slice(&self.before.frame_marks);
+            }
+            if writes != Writes::Nothing {
+                store.words.copy_from_slice(&self.before.words);
+                store.table_marks.copy_from_slice(&self.before.table_marks);
+            }
         }
     }
 
@@ -108,7 +141,11 @@ impl Tried {
     }
 }
 
-/// Whether two stores have the same words and table marks.
-fn same_tables(one: &Store, other: &Store) -> bool {
-    one.words == other.words && one.table_marks == other.table_marks
+/// Whether two stores have the same in all that a call may write to.
+fn same(writes: Writes, one: &Store, other: &Store) -> bool {
+    match writes {
+        Writes::Nothing => true,
+        Writes::Tables => one.words == other.words && one.table_marks == other.table_marks,
+        Writes::Frames => one == other,
+    }
 }

@@ -35,6 +35,7 @@ pub fn check(lent: &Lent) -> Reply {
         table_marks: from_ref(lent.table_marks).cast_mut(),
         bytes: from_ref(lent.bytes).cast_mut(),
         frame_marks: from_ref(lent.frame_marks).cast_mut(),
+        buffer: &mut [],
     };
     // SAFETY: the slices are lent, and the check only reads.
     unsafe { archive::check(slices, NO_NUMBERS) }
@@ -43,7 +44,7 @@ pub fn check(lent: &Lent) -> Reply {
 /// What our set-up says, and writes.
 pub fn set_up(words: &mut [u64], table_marks: &mut [u32], bytes: &mut [u8], frame_marks: &mut [u32]) -> Reply {
     // SAFETY: the slices are lent to be written, so they do not overlap.
-    unsafe { archive::set_up(Slices { words, table_marks, bytes, frame_marks }, NO_NUMBERS) }
+    unsafe { archive::set_up(Slices { words, table_marks, bytes, frame_marks, buffer: &mut [] }, NO_NUMBERS) }
 }
 
 /// The reply that says a model's answer.

@@ -66,8 +66,8 @@ impl Recorder {
         original::hold_bytes(&self.store);
         original::hold_words(&self.store);
         let mut after = self.store.clone();
-        let model = (call.model)(&mut after, numbers);
-        let rust = (call.rust)(numbers);
+        let model = (call.model)(&mut after, numbers, &mut []);
+        let rust = (call.rust)(numbers, &mut []);
         let listed = (call.listed)(Build::Wrapping, &self.store, numbers, model);
         let answer = model.map_or_else(|number| Answer::Refused(number, 0), Answer::Done);
         if listed.is_none() && (rust != answer || !original::holds(&after)) {
