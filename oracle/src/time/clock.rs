@@ -32,6 +32,8 @@ pub struct Times {
     /// What ours takes longer than the check in the same turn.
     pub less_check: f64,
     pub rust: f64,
+    /// By the best turn of each side instead: what ours takes longer than the check, as a part of the Rust's.
+    pub by_best: f64,
 }
 
 impl Visit {
@@ -57,6 +59,7 @@ impl Visit {
 impl Times {
     /// The medians of the visits that were disturbed least.
     pub fn of(mut visits: Vec<Visit>) -> Self {
+        let by_best = by_best(&visits);
         visits.sort_by(|one, other| one.length().total_cmp(&other.length()));
         visits.truncate(visits.len().div_ceil(ONE_OF));
         let all = |side| visits.iter().flat_map(move |visit| visit.0[side as usize].iter().copied());
@@ -68,6 +71,7 @@ impl Times {
             check: of(Side::Check),
             less_check: median(less_check.collect()),
             rust: of(Side::Rust),
+            by_best,
         }
     }
 }
@@ -86,6 +90,12 @@ fn turn(case: &Case, side: Side, held: &mut Held) -> f64 {
         Side::Rust => _ = black_box(case.rust(held)),
     }
     begun.elapsed().as_nanos() as f64
+}
+
+/// The ratio by the best turn of each side, of all visits.
+fn by_best(visits: &[Visit]) -> f64 {
+    let best = |side| visits.iter().flat_map(|visit| &visit.0[side as usize]).copied().fold(f64::INFINITY, f64::min);
+    (best(Side::Ours) - best(Side::Check)) / (best(Side::Rust) - best(Side::Clock))
 }
 
 /// The median.
