@@ -2,7 +2,7 @@
 use mathlib.Core.Path.{_≡_, refl, sym, _∙_, ap}
 use mathlib.Core.List.{List, [], _∷_, _++_}
 use mathlib.Core.Logic.{by-cases}
-use Prim.Native.Nat.{ℕ, _≤_, _<_}
+use Prim.Native.Nat.{ℕ, _<_}
 use native.Mathlib.Decide.{decLe}
 use native.Mathlib.Omega.{arith}
 use lib.ListN.{length, take, length-take}
@@ -20,7 +20,7 @@ use Rattle.program.specs.declared.command.Command.the-variants.{New, Map
 use Rattle.program.specs.Command.{commandOf}
 use Rattle.program.specs.Text.{said}
 use Rattle.program.specs.Dump as tree
-use Rattle.program.specs.Answers.{Ran, Printed, Answered}
+use Rattle.program.specs.Answers.{Ran, Answered}
 use Rattle.program.specs.Lines.{Step, Fed}
 
 pub from-dump : {s : Store} {root : ℕ} {o o′ : List ℕ} {r : ℕ} → tree.Dumped s root o o′ r → Answered s (Dump root) o o′ r s

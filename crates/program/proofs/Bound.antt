@@ -1,16 +1,14 @@
 -- A root lists at most 512 lines for each table of the store. Assumes nothing.
-use mathlib.Core.Path.{_≡_, refl, sym, _∙_, ap}
-use mathlib.Core.List.{List, [], _∷_}
+use mathlib.Core.Path.{_≡_, refl, _∙_, ap}
+use mathlib.Core.List.{List, []}
 use Prim.Native.Nat.{ℕ, zero, suc, _+_, _*_, _≤_, _<_}
-use native.Mathlib.Nat.{mul-one}
 use native.Mathlib.Omega.{arith}
 use lib.ListN.{length, length-append}
 use Rattle.store.specs.Store.{Store, Sized, word, mark}
 use Rattle.store.specs.WellFormed.{WellFormed}
-use Rattle.store.specs.Count.{freeTables}
 use Rattle.store.specs.Walk.{tableOf}
 use Rattle.store.specs.Sum.{sum, same}
-use Rattle.store.specs.Reached.{child, tablesBelow, reachedTables}
+use Rattle.store.specs.Reached.{child, tablesBelow}
 use Rattle.store.proofs.Scans.{in-range}
 use Rattle.store.proofs.Sums.{sum-le, sum-zero, sum-add, sum-scale, at-most, same-times}
 use Rattle.store.proofs.Reached.{tables-add-up}

@@ -8,3 +8,4 @@ pub mod Reading
 pub mod Listings
 pub mod Bound
 pub mod Answering
+pub mod Readback

@@ -8,7 +8,7 @@ use native.Mathlib.Omega.{arith}
 use lib.ListN.{length, length-append}
 use Rattle.store.specs.Store.{word}
 use Rattle.store.specs.Walk.{tableOf}
-use Rattle.program.specs.Text.{Wrote, RowWrote, rowText}
+use Rattle.program.specs.Text.{RowWrote, rowText}
 use Rattle.program.specs.Dump.{Row, upward, entry, table, below, entryRows, rowsText, Listed, Room}
 use Rattle.program.specs.declared.dump.Listing.{Listing}
 use Rattle.program.proofs.Writing.{wrote-none, wrote-then}

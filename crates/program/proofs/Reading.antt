@@ -1,17 +1,16 @@
 -- A line read piece by piece: its numbers, and its command. Assumes nothing.
 use mathlib.Core.Path.{_≡_, refl, sym, _∙_, ap}
-use mathlib.Core.List.{List, [], _∷_, map}
+use mathlib.Core.List.{List, [], map}
 use Prim.Native.Nat.{ℕ, suc, _+_, _-_, _<_, _≤_}
 use native.Mathlib.Numerals.{add-one}
 use native.Mathlib.Omega.{arith}
 use lib.ListN.{length, take, drop, length-drop}
 use lib.Seq.{drop-drop, take-all}
-use borrow.Author.Tests.{lt-ltb, le-ltb}
+use borrow.Author.Tests.{le-ltb}
 use Rattle.program.specs.declared.command.Command.{Command}
-use Rattle.program.specs.declared.command.Command.the-variants.{Other}
 use Rattle.program.specs.declared.numbers.Parsed.{Parsed}
 use Rattle.program.specs.declared.numbers.Numbers.{Numbers}
-use Rattle.program.specs.Command.{cutAt, piecesOf, parsedOf, noNumbers, withNumber, gathered, named, command, spoken, commandOf}
+use Rattle.program.specs.Command.{cutAt, piecesOf, parsedOf, noNumbers, withNumber, gathered, named, command, commandOf}
 use Rattle.program.proofs.Pieces.{pieces-more, pieces-one}
 use Rattle.program.proofs.Commands.{named-is}
 

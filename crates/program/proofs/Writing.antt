@@ -4,8 +4,8 @@ use mathlib.Core.List.{List, [], _∷_, _++_, append-assoc, append-nil}
 use Prim.Native.Nat.{ℕ, zero, suc, _+_, _≤_, _<_}
 use native.Mathlib.Numerals.{add-one}
 use native.Mathlib.Omega.{arith}
-use lib.ListN.{length, take, set, getD, length-take, length-append}
-use lib.Seq.{take-all, take-at, take-suc, take-suc-set, take-length, length-take-le, take-append-le}
+use lib.ListN.{length, take, set, length-take, length-append}
+use lib.Seq.{take-all, take-at, take-suc-set}
 use Rattle.program.specs.Text.{Wrote}
 
 -- what is cut off may be cut off later

@@ -33,7 +33,7 @@ unfoldable pub table : List ℕ → ℕ → ℕ → List Row
 table ws zero t = upward (λ (i : ℕ). entry 0 i (word ws (512 * t + i)) []) 512
 table ws (suc l) t = upward (λ (i : ℕ). entry (suc l) i (word ws (512 * t + i)) (table ws l (tableOf (word ws (512 * t + i))))) 512
 
--- the same of one entry
+-- what stands below an entry e of level l: its table, and nothing at level 0
 unfoldable pub below : List ℕ → ℕ → ℕ → List Row
 below ws zero e = []
 below ws (suc l) e = table ws l (tableOf e)

@@ -4,7 +4,6 @@ use store::Answer;
 ghost use Prim.Native.Nat.{_^_, _≤_, _<_};
 ghost use mathlib.Core.Path.{_≡_};
 ghost use Rattle.store.specs.Walk.{tableOf};
-ghost use lib.ListN.{length};
 ghost use Rattle.store.specs.Store.{storeOf};
 ghost use Rattle.program.specs.Dump.{Listed, Room, table, entryRows, Dumped};
 

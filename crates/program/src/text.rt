@@ -1,6 +1,6 @@
 // Text goes into a lent slice: bytes, numbers in decimal, the lines of the program. What finds no room is left out.
 use store::Answer;
-ghost use Prim.Native.Nat.{_^_, _<_, _≤_};
+ghost use Prim.Native.Nat.{_<_, _≤_};
 ghost use mathlib.Core.List.{[], _∷_};
 ghost use lib.ListN.{length};
 ghost use Rattle.program.specs.Text.{Wrote, decimal, LineWrote, SaidWrote, RowWrote};

@@ -1,5 +1,5 @@
 -- `program::command::read_command` meets its contract. Assumes nothing.
-use mathlib.Core.Path.{_≡_, sym}
+use mathlib.Core.Path.{sym}
 use Prim.Native.Nat.{_+_, _-_, _≤_}
 use native.Mathlib.Omega.{arith}
 use lib.ListN.{length, drop, length-drop}
@@ -11,7 +11,7 @@ use Rattle.program.proofs.command.read_command.Statement.{statement}
 use Rattle.program.proofs.command.read_command.Tie as tie
 
 returns : tie.Need-returns
-returns c = sym (rw (lt-ltb 128 (length (c .before .before .args .line .now)) (c .if1 .taken)))
+returns c = sym (rw (lt-ltb 128 (length (c .before .before .args .line .now)) (omega arith)))
 
 cut-requires : tie.Need-cut-requires
 cut-requires c κs = search needs
@@ -23,7 +23,7 @@ command-named-requires : tie.Need-command-named-requires
 command-named-requires c κs = search needs
 
 returns-2 : tie.Need-returns-2
-returns-2 c = one-piece (c .before .before .before .before .before .before .args .line .now) (c .before .before .before .before .if1 .left) (c .before .before .before .cut .ensures .0) (c .before .before .if2 .taken) (c .before .no-numbers .ensures) (c .command-named .ensures)
+returns-2 c = one-piece (c .before .before .before .before .before .before .args .line .now) (omega arith) (c .before .before .before .cut .ensures .0) (c .before .before .if2 .taken) (c .before .no-numbers .ensures) (c .command-named .ensures)
 
 add-at : tie.Need-add-at
 add-at c = search needs
@@ -51,7 +51,7 @@ returns-3 c =
     let line = c .before .before .before .before .before .before .before .before .args .line .now in
     let cut = c .before .before .before .before .before .cut .result in
     let l : length (drop (cut + 1) line) ≤ length line - (cut + 1) = simp length-drop (omega arith) in
-    more-pieces line (c .before .before .before .before .before .before .if1 .left) (c .before .before .before .before .before .cut .ensures .0) (c .before .before .before .before .if2 .left) (take-all (length line - (cut + 1)) (drop (cut + 1) line) l) (c .before .before .read-numbers .ensures) (c .command-named2 .ensures)
+    more-pieces line (omega arith) (c .before .before .before .before .before .cut .ensures .0) (c .before .before .before .before .if2 .left) (take-all (length line - (cut + 1)) (drop (cut + 1) line) l) (c .before .before .read-numbers .ensures) (c .command-named2 .ensures)
 
 pub read-command-spec : {M : Type 1} → statement M
 read-command-spec =

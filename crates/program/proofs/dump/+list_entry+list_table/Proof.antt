@@ -1,6 +1,6 @@
 -- The proof of the cycle of calls {list_entry, list_table}. An entry of level l calls for the table below at level l - 1, and a table of level l for
 -- its entries at the same level: the measure is 2l for an entry and 2l + 1 for a table. Assumes nothing.
-use mathlib.Core.Path.{_≡_, refl, sym, _∙_, ap}
+use mathlib.Core.Path.{_≡_, refl, _∙_}
 use native.Mathlib.Omega.{arith}
 use borrow.Author.Needs.{needs}
 use lib.ListN.{length}
@@ -111,7 +111,7 @@ list-table-list-entry-requires t c κs =
     let a = c .before .before .before .before .before .args in
     let l = c .before .before .loop in
     let n = rw (table-is (a .words .now) (a .level) (a .t)) at (c .before .before .before .before .before .pre .1 .1 .count) in
-    let part = upward-part (λ (k : ℕ). entryRows (a .words .now) (a .level) (a .t) k) (l .i) 512 (c .before .loop-test .taken) in
+    let part = upward-part (λ (k : ℕ). entryRows (a .words .now) (a .level) (a .t) k) (l .i) 512 (omega arith) in
     (omega (arith, c .before .before .before .before .before .pre .0), ((omega arith, omega arith, omega arith), record { within = omega (arith, l .inv .2 .wrote .within); count = omega (arith, l .inv .2 .count, part, n) }))
 
 list-table-add-i : (t : ℕ) → list-table-lts.Need-add-i (table-calls t) (list-table-at t) list-table.Post list-table-Inv-loop list-table-μ-loop

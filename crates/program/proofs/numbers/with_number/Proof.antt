@@ -1,5 +1,5 @@
 -- `program::numbers::with_number` meets its contract. Assumes nothing.
-use mathlib.Core.Path.{sym, _∙_}
+use mathlib.Core.Path.{_∙_}
 use Rattle.program.specs.Command.{withNumber}
 use Rattle.program.proofs.Commands.{with-more, with-none}
 use borrow.Author.Needs.{needs}

@@ -1,5 +1,4 @@
 -- `program::text::put_number` meets its contract. Assumes nothing.
-use mathlib.Core.Path.{_≡_, sym, _∙_}
 use Rattle.program.proofs.Decimals.{decimal-is}
 use borrow.Author.Needs.{needs}
 use Rattle.program.proofs.text.put_number.Statement.{statement}
