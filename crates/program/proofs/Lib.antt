@@ -8,4 +8,5 @@ pub mod Reading
 pub mod Listings
 pub mod Bound
 pub mod Answering
+pub mod WholeLines
 pub mod Readback

@@ -9,7 +9,7 @@ use lib.Seq.{take-all, take-at, take-suc-set}
 use Rattle.program.specs.Text.{Wrote}
 
 -- what is cut off may be cut off later
-clip : (n : ℕ) (x u : List ℕ) → take n (take n x ++ u) ≡ take n (x ++ u)
+pub clip : (n : ℕ) (x u : List ℕ) → take n (take n x ++ u) ≡ take n (x ++ u)
 clip zero x u = refl
 clip (suc n) [] u = refl
 clip (suc n) (y ∷ x) u = ap (λ (l : List ℕ). y ∷ l) (clip n x u)
