@@ -13,6 +13,7 @@ use Rattle.store.proofs.Scans.{in-range}
 use Rattle.store.proofs.Sums.{sum-le, sum-zero, sum-add, sum-scale, at-most, same-times}
 use Rattle.store.proofs.Reached.{tables-add-up}
 use Rattle.program.specs.Dump.{Row, upward, entry, table, rootRows}
+use Rattle.program.proofs.Listings.{entry-full}
 
 -- the rows are as many as their parts have together
 upward-sum : (f : ℕ → List Row) (n : ℕ) → length (upward f n) ≡ sum (λ i. length (f i)) n
@@ -40,13 +41,13 @@ parts f g n h =
 entry-few : (l i e k : ℕ) (rows : List Row) → length rows ≤ 512 * k → length (entry l i e rows) ≤ 1 + 512 * k
 unfolding entry
 entry-few l i zero k rows h = omega arith
-entry-few l i (suc x) k rows h = omega arith
+entry-few l i (suc x) k rows h = omega (arith, ap length (entry-full l i (suc x) rows (λ q. omega arith)))
 
 -- an entry and the table below it
 entry-child : (l i e : ℕ) (f : ℕ → ℕ) (rows : List Row) → length rows ≤ 512 * f (tableOf e) → length (entry l i e rows) ≤ 1 + 512 * child f e
 unfolding entry child
 entry-child l i zero f rows h = omega arith
-entry-child l i (suc x) f rows h = omega arith
+entry-child l i (suc x) f rows h = omega (arith, ap length (entry-full l i (suc x) rows (λ q. omega arith)))
 
 few : (ws : List ℕ) (l t : ℕ) → length (table ws l t) ≤ 512 * tablesBelow ws l t
 unfolding table tablesBelow

@@ -10,3 +10,4 @@ pub mod Bound
 pub mod Answering
 pub mod WholeLines
 pub mod Readback
+pub mod Samples

@@ -44,10 +44,10 @@ table-is ws (suc l) t = refl
 pub table-upto : (ws : List ℕ) (l t i : ℕ) → i ≡ 512 → table ws l t ≡ upward (λ (k : ℕ). entryRows ws l t k) i
 table-upto ws l t i e = table-is ws l t ∙ ap (λ (n : ℕ). upward (λ (k : ℕ). entryRows ws l t k) n) (sym e)
 
-some : (l i e : ℕ) (rows : List Row) → (e ≡ 0 → ⊥) → entry l i e rows ≡ record { level = l; index = i; word = e } ∷ rows
+pub entry-full : (l i e : ℕ) (rows : List Row) → (e ≡ 0 → ⊥) → entry l i e rows ≡ record { level = l; index = i; word = e } ∷ rows
 unfolding entry
-some l i zero rows n = absurd (n refl)
-some l i (suc e) rows n = refl
+entry-full l i zero rows n = absurd (n refl)
+entry-full l i (suc e) rows n = refl
 
 module _ (ws : List ℕ) (l t i e : ℕ) (h : e ≡ word ws (512 * t + i)) where
   pub entry-none : e ≡ 0 → entryRows ws l t i ≡ []
@@ -55,7 +55,7 @@ module _ (ws : List ℕ) (l t i e : ℕ) (h : e ≡ word ws (512 * t + i)) where
   entry-none z = rw (sym h ∙ z)
 
   pub entry-some : (e ≡ 0 → ⊥) → entryRows ws l t i ≡ record { level = l; index = i; word = e } ∷ below ws l e
-  entry-some n = rw (← h) (some l i e (below ws l e) n)
+  entry-some n = rw (← h) (entry-full l i e (below ws l e) n)
 
   pub entry-room : {o : List ℕ} {from : Listing} → (e ≡ 0 → ⊥) → Room o from (entryRows ws l t i) → from .count + 1 + length (below ws l e) < 2 ^ 64
   entry-room {o} {from} n r = let q : from .count + suc (length (below ws l e)) < 2 ^ 64 = rw (entry-some n) at (r .count) in omega arith
