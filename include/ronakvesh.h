@@ -6,11 +6,14 @@
  *   2  a store that is not well formed
  *   3  a root that is none
  *   6  a result that leaves 64 bits, a level above 2, a page at or above 2^38, or a size above 2^38
+ *   7  an address that is no multiple of 4096
  *   8  permissions above 1023
  *   9  a frame at or above 2^56
- *  10  a frame of the held window, 0x1_0000_0000 up to 0x1_2000_0000, where the store itself lies
+ *  10  a frame of the held window, 0x1_0000_0000 up to 0x1_2000_0000, where the store itself lies, that is to be mapped,
+ *      or a pool frame that is to be unmapped without freeing
  *  11  a page that is not mapped
  *  12  a page that lacks U
+ *  13  a page to be unmapped whose flags are exactly 1
  *  14  a page that is mapped already
  *  17  more tables needed than free
  * Where more than one applies, the smallest is given. */
@@ -155,6 +158,18 @@ ronakvesh_reply ronakvesh_uvmcreate(const uint64_t *words, size_t word_count, ui
 ronakvesh_reply ronakvesh_map(uint64_t *words, size_t word_count, uint32_t *table_marks, size_t tables,
                               const uint8_t *bytes, size_t byte_count, const uint32_t *frame_marks, size_t frames,
                               uint64_t root, uint64_t va, uint64_t pa, uint64_t size, uint64_t perm);
+
+/* Takes pages, from that of va on, out of a root. With freeing their pool frames are given back and keep their bytes;
+ * without it there may be none. Tables stay. The value is 0. 1, 2, 3, 6, 7, 10, 11, 13, and then nothing is written. */
+ronakvesh_reply ronakvesh_uvm_unmap(uint64_t *words, size_t word_count, const uint32_t *table_marks, size_t tables,
+                                    const uint8_t *bytes, size_t byte_count, uint32_t *frame_marks, size_t frames,
+                                    uint64_t root, uint64_t va, uint64_t pages, bool freeing);
+
+/* Takes U away from the page of va; a page that is not mapped stays so. The value is 0. 1, 2, 3, 6, and 11 only where
+ * the page has no level-0 table. */
+ronakvesh_reply ronakvesh_uvm_clear(uint64_t *words, size_t word_count, const uint32_t *table_marks, size_t tables,
+                                    const uint8_t *bytes, size_t byte_count, const uint32_t *frame_marks, size_t frames,
+                                    uint64_t root, uint64_t va);
 
 #ifdef __cplusplus
 }

@@ -1,4 +1,5 @@
 -- The promise of each call, said of its reply.
+use mathlib.Core.Bool.{Bool}
 use Prim.Native.Nat.{ℕ}
 use Rattle.store.specs.Store.{Store}
 use Rattle.store.specs.SetUp.{SetUp}
@@ -8,6 +9,8 @@ use Rattle.walk.specs.Translate.{Translate}
 use Rattle.walk.specs.Satp.{Satp}
 use Rattle.map.specs.Create.{Create}
 use Rattle.map.specs.Map.{Map}
+use Rattle.unmap.specs.Unmap.{Unmap}
+use Rattle.unmap.specs.Clear.{Clear}
 use Rattle.interface.specs.Reply.{Replied}
 use Rattle.interface.specs.declared.Reply.{Reply}
 
@@ -28,3 +31,9 @@ CreateReply s r s′ = Replied (λ (a : Answer). Create s a s′) r
 
 abbrev pub MapReply : Store → ℕ → ℕ → ℕ → ℕ → ℕ → Reply → Store → Type 0
 MapReply s root va pa size perm r s′ = Replied (λ (a : Answer). Map s root va pa size perm a s′) r
+
+abbrev pub UnmapReply : Store → ℕ → ℕ → ℕ → Bool → Reply → Store → Type 0
+UnmapReply s root va n freeing r s′ = Replied (λ (a : Answer). Unmap s root va n freeing a s′) r
+
+abbrev pub ClearReply : Store → ℕ → ℕ → Reply → Store → Type 0
+ClearReply s root va r s′ = Replied (λ (a : Answer). Clear s root va a s′) r

@@ -4,7 +4,7 @@ use super::replies::answer_reply;
 use address::PhysicalAddress;
 use address::VirtualAddress;
 ghost use Rattle.store.specs.Store.{storeOf};
-ghost use Rattle.interface.specs.Calls.{SetUpReply, CheckReply, TranslateReply, SatpReply, CreateReply, MapReply};
+ghost use Rattle.interface.specs.Calls.{SetUpReply, CheckReply, TranslateReply, SatpReply, CreateReply, MapReply, UnmapReply, ClearReply};
 
 #[no_mangle]
 pub extern "C" fn ronakvesh_set_up(
@@ -100,4 +100,47 @@ pub extern "C" fn ronakvesh_map(
         size,
         perm,
     ))
+}
+
+#[no_mangle]
+pub extern "C" fn ronakvesh_uvm_unmap(
+    words: &mut [u64],
+    tmarks: &[u32],
+    bytes: &[u8],
+    fmarks: &mut [u32],
+    root: u64,
+    va: u64,
+    pages: u64,
+    freeing: bool,
+) -> Reply
+    ensures { λ r. ⌜ UnmapReply
+        (storeOf (now (words .entry)) (now (tmarks .entry)) (now (bytes .entry)) (now (fmarks .entry))) root va pages freeing r
+        (storeOf (now (words .exit)) (now (tmarks .entry)) (now (bytes .entry)) (now (fmarks .exit))) ⌝ }
+{
+    answer_reply(unmap::uvm_unmap(
+        words,
+        tmarks,
+        bytes,
+        fmarks,
+        root,
+        VirtualAddress(va),
+        pages,
+        freeing,
+    ))
+}
+
+#[no_mangle]
+pub extern "C" fn ronakvesh_uvm_clear(
+    words: &mut [u64],
+    tmarks: &[u32],
+    bytes: &[u8],
+    fmarks: &[u32],
+    root: u64,
+    va: u64,
+) -> Reply
+    ensures { λ r. ⌜ ClearReply
+        (storeOf (now (words .entry)) (now (tmarks .entry)) (now (bytes .entry)) (now (fmarks .entry))) root va r
+        (storeOf (now (words .exit)) (now (tmarks .entry)) (now (bytes .entry)) (now (fmarks .entry))) ⌝ }
+{
+    answer_reply(unmap::uvm_clear(words, tmarks, bytes, fmarks, root, VirtualAddress(va)))
 }
