@@ -37,7 +37,7 @@ module _ (n : ℕ) (s : Store) (r p : ℕ) (freeing : Bool) (c : Leavable (suc n
   first-slot = slotted s (c .sized) (c .tree) r p (c .root) h here
 
   -- the first has left, and the others may leave
-  pub first-left : Left s (leavePage s r p freeing) r p
+  pub first-left : Left s (leavePage s r p freeing) r p freeing
   first-left =
       page-left s (c .sized) (c .tree) r p (c .root) h here freeing
       (λ f q. c .foreign f 0 (omega arith) (subst (λ (x : ℕ). PoolFrame s (resolve s r x)) (sym (add-zero p)) q))

@@ -5,5 +5,7 @@ pub mod UnmapReasons
 pub mod LeaveSlots
 pub mod LeavePage
 pub mod LeavePages
+pub mod GoneLaws
 pub mod UnmapLaws
 pub mod ClearLaws
+pub mod ClearedLaws

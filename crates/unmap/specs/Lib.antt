@@ -2,3 +2,4 @@
 pub mod Leave
 pub mod Unmap
 pub mod Clear
+pub mod Gone
