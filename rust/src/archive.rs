@@ -76,6 +76,34 @@ extern "C" {
         perm: u64,
     ) -> Reply;
 
+    pub fn ronakvesh_uvm_unmap(
+        words: *mut u64,
+        words_length: usize,
+        tmarks: *const u32,
+        tmarks_length: usize,
+        bytes: *const u8,
+        bytes_length: usize,
+        fmarks: *mut u32,
+        fmarks_length: usize,
+        root: u64,
+        va: u64,
+        pages: u64,
+        freeing: bool,
+    ) -> Reply;
+
+    pub fn ronakvesh_uvm_clear(
+        words: *mut u64,
+        words_length: usize,
+        tmarks: *const u32,
+        tmarks_length: usize,
+        bytes: *const u8,
+        bytes_length: usize,
+        fmarks: *const u32,
+        fmarks_length: usize,
+        root: u64,
+        va: u64,
+    ) -> Reply;
+
     pub fn ronakvesh_pgt_translate(
         words: *const u64,
         words_length: usize,

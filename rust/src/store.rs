@@ -161,6 +161,80 @@ impl Store<'_> {
         reply.result()
     }
 
+    /// Takes `pages` pages, from that of `va` on, out of a root: their words become 0. With `freeing` their pool frames are
+    /// given back and keep their bytes; without it there may be none. Frames outside the pool are left alone, and tables stay.
+    ///
+    /// Refuses with [`Sizes`](Refusal::Sizes), [`NotWellFormed`](Refusal::NotWellFormed), [`NoRoot`](Refusal::NoRoot),
+    /// [`TooHigh`](Refusal::TooHigh), [`NotAligned`](Refusal::NotAligned), [`HeldWindow`](Refusal::HeldWindow),
+    /// [`NotMapped`](Refusal::NotMapped), [`OnlyValid`](Refusal::OnlyValid).
+    ///
+    /// ```
+    /// # use ronakvesh::{PhysicalAddress, Refusal, Store, VirtualAddress};
+    /// # let (mut words, mut tmarks, mut bytes, mut fmarks) = ([0; 512 * 3], [0; 3], [0; 4096], [0; 1]);
+    /// # let mut store = Store { words: &mut words, tmarks: &mut tmarks, bytes: &mut bytes, fmarks: &mut fmarks };
+    /// let root = store.uvmcreate()?;
+    /// let (va, pa) = (VirtualAddress(0x1000), PhysicalAddress(0x8000_0000));
+    /// assert_eq!(store.map(root, va, pa, 8192, 22), Ok(2));
+    /// assert_eq!(store.uvm_unmap(root, va, 3, false), Err(Refusal::NotMapped));
+    /// assert_eq!(store.uvm_unmap(root, va, 2, false), Ok(()));
+    /// assert_eq!(store.map(root, va, pa, 8192, 22), Ok(0));
+    /// # Ok::<(), ronakvesh::Refusal>(())
+    /// ```
+    pub fn uvm_unmap(&mut self, root: u64, va: VirtualAddress, pages: u64, freeing: bool) -> Result<(), Refusal> {
+        let reply = unsafe {
+            archive::ronakvesh_uvm_unmap(
+                self.words.as_mut_ptr(),
+                self.words.len(),
+                self.tmarks.as_ptr(),
+                self.tmarks.len(),
+                self.bytes.as_ptr(),
+                self.bytes.len(),
+                self.fmarks.as_mut_ptr(),
+                self.fmarks.len(),
+                root,
+                va.0,
+                pages,
+                freeing,
+            )
+        };
+        reply.result().map(|_| ())
+    }
+
+    /// Takes U away from the page of `va` in a root. A page that is not mapped stays so.
+    ///
+    /// Refuses with [`Sizes`](Refusal::Sizes), [`NotWellFormed`](Refusal::NotWellFormed), [`NoRoot`](Refusal::NoRoot),
+    /// [`TooHigh`](Refusal::TooHigh), and with [`NotMapped`](Refusal::NotMapped) only where the page has no level-0 table.
+    ///
+    /// ```
+    /// # use ronakvesh::{PhysicalAddress, Refusal, Store, VirtualAddress};
+    /// # let (mut words, mut tmarks, mut bytes, mut fmarks) = ([0; 512 * 3], [0; 3], [0; 4096], [0; 1]);
+    /// # let mut store = Store { words: &mut words, tmarks: &mut tmarks, bytes: &mut bytes, fmarks: &mut fmarks };
+    /// let root = store.uvmcreate()?;
+    /// let va = VirtualAddress(0x1000);
+    /// assert_eq!(store.uvm_clear(root, va), Err(Refusal::NotMapped));
+    /// store.map(root, va, PhysicalAddress(0x8000_0000), 4096, 22)?;
+    /// assert_eq!(store.uvm_clear(root, va), Ok(()));
+    /// assert_eq!(store.pgt_translate(root, va), Err(Refusal::NotUser));
+    /// # Ok::<(), ronakvesh::Refusal>(())
+    /// ```
+    pub fn uvm_clear(&mut self, root: u64, va: VirtualAddress) -> Result<(), Refusal> {
+        let reply = unsafe {
+            archive::ronakvesh_uvm_clear(
+                self.words.as_mut_ptr(),
+                self.words.len(),
+                self.tmarks.as_ptr(),
+                self.tmarks.len(),
+                self.bytes.as_ptr(),
+                self.bytes.len(),
+                self.fmarks.as_ptr(),
+                self.fmarks.len(),
+                root,
+                va.0,
+            )
+        };
+        reply.result().map(|_| ())
+    }
+
     /// The address of the frame that the page of `va` resolves to in a root, without the offset.
     ///
     /// Refuses with [`Sizes`](Refusal::Sizes), [`NotWellFormed`](Refusal::NotWellFormed), [`NoRoot`](Refusal::NoRoot),

@@ -22,10 +22,27 @@ fn find(store: &Store, root: u64, va: u64) -> Result<PhysicalAddress, Refusal> {
     store.pgt_translate(root, VirtualAddress(va))
 }
 
+/// Unmaps pages of a root without freeing.
+fn unmap(store: &mut Store, root: u64, va: u64, pages: u64) -> Result<(), Refusal> {
+    store.uvm_unmap(root, VirtualAddress(va), pages, false)
+}
+
+/// Unmaps pages of root 0 with freeing.
+fn free(store: &mut Store, va: u64, pages: u64) -> Result<(), Refusal> {
+    store.uvm_unmap(0, VirtualAddress(va), pages, true)
+}
+
+fn clear(store: &mut Store, root: u64, va: u64) -> Result<(), Refusal> {
+    store.uvm_clear(root, VirtualAddress(va))
+}
+
 /// Every call but set-up and the check refuses the store with this number.
 fn all_refuse(memory: &mut Memory, refusal: Refusal) {
     refuses(memory, refusal, |store| store.uvmcreate());
     refuses(memory, refusal, |store| map(store, 0, 0, FRAME, 4096));
+    refuses(memory, refusal, |store| unmap(store, 0, 0, 1));
+    refuses(memory, refusal, |store| free(store, 0, 1));
+    refuses(memory, refusal, |store| clear(store, 0, 0));
     refuses(memory, refusal, |store| find(store, 0, 0));
     refuses(memory, refusal, |store| store.as_satp(0));
 }
@@ -70,10 +87,13 @@ fn no_root() {
     let mut memory = Memory::with_root(8);
     for root in [1, 8, u64::MAX] {
         refuses(&mut memory, Refusal::NoRoot, |store| map(store, root, 0, FRAME, 4096));
+        refuses(&mut memory, Refusal::NoRoot, |store| unmap(store, root, 0, 0));
+        refuses(&mut memory, Refusal::NoRoot, |store| clear(store, root, 0));
         refuses(&mut memory, Refusal::NoRoot, |store| find(store, root, 0));
         refuses(&mut memory, Refusal::NoRoot, |store| store.as_satp(root));
     }
     assert_eq!(memory.store().as_satp(0), Ok(0x8000_0000_0010_0000));
+    assert_eq!(unmap(&mut memory.store(), 0, 0, 0), Ok(()));
 }
 
 #[test]
@@ -85,6 +105,32 @@ fn too_high() {
     assert_eq!(map(&mut memory.store(), 0, END - 4096, FRAME, 4096), Ok(2));
     refuses(&mut memory, Refusal::TooHigh, |store| find(store, 0, END));
     assert_eq!(find(&memory.store(), 0, END - 1), Ok(PhysicalAddress(FRAME)));
+}
+
+#[test]
+fn too_high_for_a_page() {
+    let mut memory = Memory::with_root(8);
+    assert_eq!(map(&mut memory.store(), 0, END - 4096, FRAME, 4096), Ok(2));
+    for (va, pages) in [(END, 1), (END - 4096, 2), (0, (1 << 26) + 1), (0, u64::MAX), (u64::MAX, u64::MAX)] {
+        refuses(&mut memory, Refusal::TooHigh, |store| unmap(store, 0, va, pages));
+        refuses(&mut memory, Refusal::TooHigh, |store| free(store, va, pages));
+    }
+    for va in [END, u64::MAX] {
+        refuses(&mut memory, Refusal::TooHigh, |store| clear(store, 0, va));
+    }
+    assert_eq!(clear(&mut memory.store(), 0, END - 1), Ok(()));
+    assert_eq!(unmap(&mut memory.store(), 0, END - 4096, 1), Ok(()));
+}
+
+#[test]
+fn not_aligned() {
+    let mut memory = Memory::with_root(8);
+    assert_eq!(map(&mut memory.store(), 0, 4096, FRAME, 8192), Ok(2));
+    for (va, pages) in [(4097, 1), (8191, 1), (4098, 2), (4097, 0), (u64::MAX, 0)] {
+        refuses(&mut memory, Refusal::NotAligned, |store| unmap(store, 0, va, pages));
+        refuses(&mut memory, Refusal::NotAligned, |store| free(store, va, pages));
+    }
+    assert_eq!(unmap(&mut memory.store(), 0, 4096, 1), Ok(()));
 }
 
 #[test]
@@ -117,6 +163,18 @@ fn held_window() {
 }
 
 #[test]
+fn a_pool_frame_and_no_freeing() {
+    let mut memory = Memory::with_root(8);
+    assert_eq!(map(&mut memory.store(), 0, 0, FRAME, 4096), Ok(2));
+    memory.enter(1024 + 1, 7);
+    for (va, pages) in [(4096, 1), (0, 2)] {
+        refuses(&mut memory, Refusal::HeldWindow, |store| unmap(store, 0, va, pages));
+    }
+    assert_eq!(unmap(&mut memory.store(), 0, 0, 1), Ok(()));
+    assert_eq!(free(&mut memory.store(), 4096, 1), Ok(()));
+}
+
+#[test]
 fn not_mapped() {
     let mut memory = Memory::with_root(8);
     refuses(&mut memory, Refusal::NotMapped, |store| find(store, 0, 4096));
@@ -126,10 +184,48 @@ fn not_mapped() {
 }
 
 #[test]
+fn not_mapped_to_be_unmapped() {
+    let mut memory = Memory::with_root(8);
+    assert_eq!(map(&mut memory.store(), 0, 4096, FRAME, 8192), Ok(2));
+    for (va, pages) in [(0, 1), (0, 2), (4096, 3), (12288, 1), (1 << 21, 1), (1 << 30, 1), (0, 1 << 26)] {
+        refuses(&mut memory, Refusal::NotMapped, |store| unmap(store, 0, va, pages));
+        refuses(&mut memory, Refusal::NotMapped, |store| free(store, va, pages));
+    }
+    assert_eq!(unmap(&mut memory.store(), 0, 4096, 2), Ok(()));
+    refuses(&mut memory, Refusal::NotMapped, |store| unmap(store, 0, 4096, 2));
+}
+
+#[test]
+fn no_table_to_clear_in() {
+    let mut memory = Memory::with_root(8);
+    refuses(&mut memory, Refusal::NotMapped, |store| clear(store, 0, 0));
+    assert_eq!(map(&mut memory.store(), 0, 4096, FRAME, 4096), Ok(2));
+    for va in [1 << 21, 1 << 30] {
+        refuses(&mut memory, Refusal::NotMapped, |store| clear(store, 0, va));
+    }
+    assert_eq!(clear(&mut memory.store(), 0, (1 << 21) - 1), Ok(()));
+}
+
+#[test]
 fn not_user() {
     let mut memory = Memory::with_root(8);
     assert_eq!(map_with(&mut memory.store(), 1023 - 16), Ok(2));
     refuses(&mut memory, Refusal::NotUser, |store| find(store, 0, 0));
+}
+
+#[test]
+fn only_valid() {
+    for (perm, refused) in [(0, true), (1, true), (2, false), (16, false), (512, false)] {
+        let mut memory = Memory::with_root(8);
+        assert_eq!(map_with(&mut memory.store(), perm), Ok(2));
+        assert_eq!(map(&mut memory.store(), 0, 4096, FRAME, 4096), Ok(0));
+        if refused {
+            refuses(&mut memory, Refusal::OnlyValid, |store| unmap(store, 0, 0, 2));
+            refuses(&mut memory, Refusal::OnlyValid, |store| free(store, 0, 2));
+        } else {
+            assert_eq!(unmap(&mut memory.store(), 0, 0, 2), Ok(()));
+        }
+    }
 }
 
 #[test]
@@ -160,4 +256,20 @@ fn the_smallest_is_given() {
     refuses(&mut memory, Refusal::Permissions, |store| store.map(0, VirtualAddress(0), far, 1, 1024));
     refuses(&mut memory, Refusal::FrameTooHigh, |store| store.map(0, VirtualAddress(0), far, 1, 1023));
     refuses(&mut memory, Refusal::TooFewTables, |store| map_with(store, 1023));
+}
+
+#[test]
+fn the_smallest_is_given_for_pages() {
+    let mut memory = Memory::with_root(8);
+    assert_eq!(map_with(&mut memory.store(), 0), Ok(2));
+    memory.enter(1024 + 1, 0);
+    refuses(&mut memory, Refusal::NoRoot, |store| unmap(store, 1, END + 1, 3));
+    refuses(&mut memory, Refusal::TooHigh, |store| unmap(store, 0, END + 1, 3));
+    refuses(&mut memory, Refusal::NotAligned, |store| unmap(store, 0, 1, 3));
+    refuses(&mut memory, Refusal::HeldWindow, |store| unmap(store, 0, 0, 3));
+    refuses(&mut memory, Refusal::NotMapped, |store| free(store, 0, 3));
+    refuses(&mut memory, Refusal::OnlyValid, |store| free(store, 0, 2));
+    refuses(&mut memory, Refusal::NoRoot, |store| clear(store, 1, END));
+    refuses(&mut memory, Refusal::TooHigh, |store| clear(store, 0, END));
+    assert_eq!(free(&mut memory.store(), 4096, 1), Ok(()));
 }

@@ -32,6 +32,13 @@ impl Memory {
         memory
     }
 
+    /// Enters a pool frame in a word, with flags 31, and marks it as that word's.
+    pub fn enter(&mut self, word: usize, frame: usize) {
+        self.words[word] = 0x4400_0000 + 1024 * frame as u64 + 31;
+        self.fmarks[frame] = word as u32 + 2;
+        assert_eq!(self.store().check(), Ok(true));
+    }
+
     pub fn store(&mut self) -> Store<'_> {
         Store { words: &mut self.words, tmarks: &mut self.tmarks, bytes: &mut self.bytes, fmarks: &mut self.fmarks }
     }
