@@ -20,7 +20,7 @@ pub within : (p k : ℕ) → 0 < k → (TooHigh p k → ⊥) → p + k ≤ 2 ^ 2
 within p k h q = by-cases (decLe (p + k) (2 ^ 26)) (λ y. y) (λ y. absurd (q (k - 1, omega arith, omega arith)))
 
 -- pages are refused with 10 to 13
-leave-range : {s : Store} {r p n : ℕ} {freeing : Bool} {k : ℕ} → LeaveReason s r p n freeing k → (10 ≤ k) × (k ≤ 13)
+pub leave-range : {s : Store} {r p n : ℕ} {freeing : Bool} {k : ℕ} → LeaveReason s r p n freeing k → (10 ≤ k) × (k ≤ 13)
 leave-range (pooled h) = omega arith
 leave-range (unmapped i l h) = omega arith
 leave-range (bare i l h) = omega arith

@@ -1,0 +1,3 @@
+-- The laws of growing and shrinking.
+pub mod ShrinkReasons
+pub mod ShrinkLaws

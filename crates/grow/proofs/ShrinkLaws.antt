@@ -1,0 +1,58 @@
+-- What each way out of `uvm_dealloc` says, that two answers to one call are the same, and what a success means. Assumes nothing.
+use mathlib.Core.Path.{_≡_, refl, sym, ap, _∙_, subst, subst₂}
+use mathlib.Core.Logic.{by-cases}
+use mathlib.Core.Bool.{true, cond}
+use Prim.Native.Nat.{ℕ, _+_, _-_, _^_, _≤_, _<_}
+use native.Mathlib.Decide.{ℕ-discrete}
+use native.Mathlib.Omega.{arith}
+use lib.Dec.{leb}
+use Rattle.address.specs.Field.{bit}
+use Rattle.page_table_entry.specs.Layout.{bitV}
+use Rattle.store.specs.Store.{Store}
+use Rattle.store.specs.Walk.{resolve}
+use Rattle.store.specs.Outcome.{Judges}
+use Rattle.store.specs.declared.Answer.{Answer}
+use Rattle.store.specs.declared.Answer.the-variants.{Refused, Done}
+use Rattle.store.proofs.Outcomes.{one-outcome}
+use Rattle.unmap.specs.Leave.{pooled, unmapped, bare, leavePages, Asked, CanLeave}
+use Rattle.unmap.specs.Gone.{Gone}
+use Rattle.unmap.proofs.LeavePages.{leavable}
+use Rattle.unmap.proofs.GoneLaws.{pages-gone}
+use Rattle.grow.specs.Sizes.{pagesTo}
+use Rattle.grow.specs.Shrink.{lost, ShrinkReason, pages, ShrinkReady, ShrinkDone, Shrink}
+use Rattle.grow.proofs.ShrinkReasons.{clear}
+
+module _ (s : Store) (root old new : ℕ) where
+  pub refuse : (k : ℕ) → Judges (ShrinkReason s root old new) (ShrinkReady s root old new) k → (k ≡ 0 → ⊥) → Shrink s root old new (Refused k) s
+  refuse k j h = (j .reason h, refl)
+
+  -- two answers to one call are the same, and so are the stores
+  pub one-shrink : (a a′ : Answer) (t t′ : Store) → Shrink s root old new a t → Shrink s root old new a′ t′ → (a ≡ a′) × (t ≡ t′)
+  one-shrink = one-outcome (ShrinkReason s root old new) (ShrinkDone s root old new) (λ v v′ t t′ x y. (x .0 ∙ sym (y .0), x .1 ∙ sym (y .1))) s
+
+  module _ (f : ShrinkReady s root old new) (first end : ℕ) (ef : first ≡ pagesTo new) (ee : end ≡ pagesTo old) where
+    pub may-leave : first < end → CanLeave s root first (end - first) true
+    may-leave h =
+        subst₂ (λ (x y : ℕ). CanLeave s root x (y - x) true) (sym ef) (sym ee)
+        (record { asked = record { sized = f .sized; formed = f .formed; is-root = f .is-root; pages = omega (arith, f .old-small) }; ready = f .pages })
+
+    pub done-all : (v : ℕ) (s′ : Store) → v ≡ cond (leb old new) old new → s′ ≡ leavePages s root first (end - first) true → Shrink s root old new (Done v) s′
+    done-all v s′ ev e =
+        (clear s root old new f, (ev, e ∙ ap (λ (x : ℕ). leavePages s root x (end - x) true) ef ∙ ap (λ (y : ℕ). leavePages s root (pagesTo new) (y - pagesTo new) true) ee))
+
+    pub done-none : (v : ℕ) → v ≡ cond (leb old new) old new → end ≤ first → Shrink s root old new (Done v) s
+    unfolding leavePages
+    done-none v ev h = let k : lost old new ≡ 0 = omega (arith, ef, ee) in (clear s root old new f, (ev, ap (λ (x : ℕ). leavePages s root (pagesTo new) x true) (sym k)))
+
+  -- what a success means, where pages may be asked about: exactly the pages that new bytes do not take are gone
+  pub shrink-gone : (v : ℕ) (s′ : Store) → Asked s root (pagesTo new) (lost old new) → Shrink s root old new (Done v) s′ → Gone s root (pagesTo new) (lost old new) true s′
+  shrink-gone v s′ a u =
+      let q = leavable s root (pagesTo new) (lost old new) true (record {
+        asked = a;
+        ready = record {
+          foreign = λ m. u .0 10 (pages (pooled m));
+          mapped = λ i l. by-cases (ℕ-discrete (bit bitV (resolve s root (pagesTo new + i))) 1) (λ y. y) (λ y. absurd (u .0 11 (pages (unmapped i l y))));
+          full = λ i l b. u .0 13 (pages (bare i l b));
+        };
+      }) in
+      subst (Gone s root (pagesTo new) (lost old new) true) (sym (u .1 .1)) (pages-gone (lost old new) s root (pagesTo new) true q)
