@@ -148,4 +148,6 @@ calls! {
     as_satp = ronakvesh_as_satp(root);
     uvmcreate = ronakvesh_uvmcreate();
     map = ronakvesh_map(root, va, pa, size, permissions);
+    uvm_unmap = ronakvesh_uvm_unmap(root, va, pages, freeing: bool);
+    uvm_clear = ronakvesh_uvm_clear(root, va);
 }

@@ -5,7 +5,7 @@ use crate::answer::{Answer, Build};
 use crate::archive::{self, Numbers, Reply, Slices, NO_NUMBERS};
 use crate::call::inputs::{self, Inputs};
 use crate::call::listed;
-use crate::call::{map, original, uvmcreate};
+use crate::call::{map, original, unmap, uvm_clear, uvmcreate};
 use crate::listed::Listed;
 use crate::model::calls;
 use crate::model::numbers::ROOT;
@@ -19,7 +19,6 @@ pub enum Writes {
     /// Words and table marks.
     Tables,
     /// Words, bytes and both kinds of marks.
-    #[allow(dead_code)] // for calls that take frames, give them back or write to them
     Frames,
 }
 
@@ -62,7 +61,7 @@ impl Call {
 }
 
 /// Every call that is compared.
-pub static CALLS: [Call; 4] = [
+pub static CALLS: [Call; 6] = [
     Call {
         name: "pgt_translate",
         numbers: 2,
@@ -130,6 +129,40 @@ pub static CALLS: [Call; 4] = [
         differences: &map::listed::DIFFERENCES,
         when_checked: &[map::listed::EARLY],
         listed: map::listed::mapping,
+    },
+    Call {
+        name: "uvm_unmap",
+        numbers: 4,
+        times: 1,
+        writes: Writes::Frames,
+        any: unmap::inputs::any,
+        vary: None,
+        buffer: None,
+        ours: archive::uvm_unmap,
+        model: |store, [root, va, pages, freeing, _], _| calls::uvm_unmap(store, root, va, pages, freeing != 0),
+        may_run: is_root,
+        rust: original::uvm_unmap,
+        refusals: &[1, 2, 3, 6, 7, 10, 11, 13],
+        differences: &unmap::listed::DIFFERENCES,
+        when_checked: &[],
+        listed: unmap::listed::unmapping,
+    },
+    Call {
+        name: "uvm_clear",
+        numbers: 2,
+        times: 1,
+        writes: Writes::Tables,
+        any: inputs::root_and_address,
+        vary: None,
+        buffer: None,
+        ours: archive::uvm_clear,
+        model: |store, [root, va, ..], _| calls::uvm_clear(store, root, va),
+        may_run: is_root,
+        rust: original::uvm_clear,
+        refusals: &[1, 2, 3, 6, 11],
+        differences: &uvm_clear::DIFFERENCES,
+        when_checked: &[],
+        listed: uvm_clear::clearing,
     },
 ];
 

@@ -28,4 +28,5 @@ pub fn absent(_: Numbers, _: &mut [u8]) -> Answer {
     unreachable!("the Rust is not there")
 }
 
-pub use {absent as as_satp, absent as map, absent as pgt_translate, absent as uvmcreate};
+pub use {absent as as_satp, absent as map, absent as pgt_translate};
+pub use {absent as uvm_clear, absent as uvm_unmap, absent as uvmcreate};

@@ -27,7 +27,7 @@ fn level_0_table(store: &Store, root: usize, block: u64) -> Option<usize> {
 }
 
 /// The number of a page's level-0 word, where its level-0 table exists.
-fn level_0_word(store: &Store, root: usize, page: u64) -> Option<usize> {
+pub fn level_0_word(store: &Store, root: usize, page: u64) -> Option<usize> {
     let level_0 = level_0_table(store, root, block(page))?;
     Some(word_at(level_0, (page % 512) as usize))
 }

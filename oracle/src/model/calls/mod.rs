@@ -7,6 +7,7 @@ mod map;
 mod pgt_translate;
 mod set_up;
 mod uvm_alloc;
+mod uvm_clear;
 mod uvm_unmap;
 mod uvmcreate;
 
@@ -16,5 +17,6 @@ pub use map::map;
 pub use pgt_translate::pgt_translate;
 pub use set_up::set_up;
 pub use uvm_alloc::uvm_alloc;
+pub use uvm_clear::uvm_clear;
 pub use uvm_unmap::uvm_unmap;
 pub use uvmcreate::uvmcreate;

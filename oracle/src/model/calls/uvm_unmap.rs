@@ -16,11 +16,10 @@ pub fn uvm_unmap(store: &mut Store, root: u64, va: u64, npages: u64, freeing: bo
     let pages = first..first + npages;
     judge::height(&pages)?;
     refuse(7, va % PAGE != 0)?;
-    let words: Vec<Option<usize>> = pages.map(|page| mapped_word(store, root, page)).collect();
-    let mapped: Vec<usize> = words.iter().copied().flatten().collect();
+    let mapped: Vec<usize> = pages.filter_map(|page| mapped_word(store, root, page)).collect();
     let frame_of = |store: &Store, word: usize| pool_frame(store, address(store.words[word]));
     refuse(10, !freeing && mapped.iter().any(|&word| frame_of(store, word).is_some()))?;
-    refuse(11, mapped.len() < words.len())?;
+    refuse(11, (mapped.len() as u64) < npages)?;
     refuse(13, mapped.iter().any(|&word| flags(store.words[word]) == V))?;
     for word in mapped {
         if let Some(frame) = frame_of(store, word) {
