@@ -5,7 +5,7 @@ use crate::answer::{Answer, Build};
 use crate::archive::{self, Numbers, Reply, Slices, NO_NUMBERS};
 use crate::call::inputs::{self, Inputs};
 use crate::call::listed;
-use crate::call::{map, original, unmap, uvm_clear, uvmcreate};
+use crate::call::{map, original, uvm_clear, uvm_unmap, uvmcreate};
 use crate::listed::Listed;
 use crate::model::calls;
 use crate::model::numbers::ROOT;
@@ -135,7 +135,7 @@ pub static CALLS: [Call; 6] = [
         numbers: 4,
         times: 1,
         writes: Writes::Frames,
-        any: unmap::inputs::any,
+        any: uvm_unmap::inputs::any,
         vary: None,
         buffer: None,
         ours: archive::uvm_unmap,
@@ -143,9 +143,9 @@ pub static CALLS: [Call; 6] = [
         may_run: is_root,
         rust: original::uvm_unmap,
         refusals: &[1, 2, 3, 6, 7, 10, 11, 13],
-        differences: &unmap::listed::DIFFERENCES,
+        differences: &uvm_unmap::listed::DIFFERENCES,
         when_checked: &[],
-        listed: unmap::listed::unmapping,
+        listed: uvm_unmap::listed::unmapping,
     },
     Call {
         name: "uvm_clear",

@@ -13,6 +13,6 @@ pub mod report;
 pub mod run;
 pub mod tally;
 pub mod tried;
-pub mod unmap;
 pub mod uvm_clear;
+pub mod uvm_unmap;
 pub mod uvmcreate;
