@@ -171,6 +171,13 @@ ronakvesh_reply ronakvesh_uvm_clear(uint64_t *words, size_t word_count, const ui
                                     const uint8_t *bytes, size_t byte_count, const uint32_t *frame_marks, size_t frames,
                                     uint64_t root, uint64_t va);
 
+/* Shrinks what a root maps from page 0 on from old_size to new_size bytes: the pages past the new size leave, and their
+ * pool frames are given back. The value is the new size, or the old one where the new one is no less. 1, 2, 3, 6, 11, 13,
+ * and then nothing is written. */
+ronakvesh_reply ronakvesh_uvm_dealloc(uint64_t *words, size_t word_count, const uint32_t *table_marks, size_t tables,
+                                      const uint8_t *bytes, size_t byte_count, uint32_t *frame_marks, size_t frames,
+                                      uint64_t root, uint64_t old_size, uint64_t new_size);
+
 #ifdef __cplusplus
 }
 #endif

@@ -11,6 +11,7 @@ use Rattle.map.specs.Create.{Create}
 use Rattle.map.specs.Map.{Map}
 use Rattle.unmap.specs.Unmap.{Unmap}
 use Rattle.unmap.specs.Clear.{Clear}
+use Rattle.grow.specs.Shrink.{Shrink}
 use Rattle.interface.specs.Reply.{Replied}
 use Rattle.interface.specs.declared.Reply.{Reply}
 
@@ -37,3 +38,6 @@ UnmapReply s root va n freeing r s′ = Replied (λ (a : Answer). Unmap s root v
 
 abbrev pub ClearReply : Store → ℕ → ℕ → Reply → Store → Type 0
 ClearReply s root va r s′ = Replied (λ (a : Answer). Clear s root va a s′) r
+
+abbrev pub ShrinkReply : Store → ℕ → ℕ → ℕ → Reply → Store → Type 0
+ShrinkReply s root old new r s′ = Replied (λ (a : Answer). Shrink s root old new a s′) r

@@ -4,7 +4,7 @@ use super::replies::answer_reply;
 use address::PhysicalAddress;
 use address::VirtualAddress;
 ghost use Rattle.store.specs.Store.{storeOf};
-ghost use Rattle.interface.specs.Calls.{SetUpReply, CheckReply, TranslateReply, SatpReply, CreateReply, MapReply, UnmapReply, ClearReply};
+ghost use Rattle.interface.specs.Calls.{SetUpReply, CheckReply, TranslateReply, SatpReply, CreateReply, MapReply, UnmapReply, ClearReply, ShrinkReply};
 
 #[no_mangle]
 pub extern "C" fn ronakvesh_set_up(
@@ -143,4 +143,21 @@ pub extern "C" fn ronakvesh_uvm_clear(
         (storeOf (now (words .exit)) (now (tmarks .entry)) (now (bytes .entry)) (now (fmarks .entry))) ⌝ }
 {
     answer_reply(unmap::uvm_clear(words, tmarks, bytes, fmarks, root, VirtualAddress(va)))
+}
+
+#[no_mangle]
+pub extern "C" fn ronakvesh_uvm_dealloc(
+    words: &mut [u64],
+    tmarks: &[u32],
+    bytes: &[u8],
+    fmarks: &mut [u32],
+    root: u64,
+    old: u64,
+    new: u64,
+) -> Reply
+    ensures { λ r. ⌜ ShrinkReply
+        (storeOf (now (words .entry)) (now (tmarks .entry)) (now (bytes .entry)) (now (fmarks .entry))) root old new r
+        (storeOf (now (words .exit)) (now (tmarks .entry)) (now (bytes .entry)) (now (fmarks .exit))) ⌝ }
+{
+    answer_reply(grow::uvm_dealloc(words, tmarks, bytes, fmarks, root, old, new))
 }
