@@ -5,7 +5,7 @@ use Prim.Native.Nat.{ℕ, zero, suc, _+_, _-_, _*_, _/_, _%_, _^_, _≤_, _<_}
 use native.Mathlib.Omega.{arith}
 use Rattle.store.specs.Store.{Store, storeOf}
 use Rattle.store.specs.Count.{lowest, freeTables}
-use Rattle.store.specs.Walk.{slotWord, slot, resolve}
+use Rattle.store.specs.Walk.{slotWord, slot}
 use Rattle.store.proofs.Tree.{tree-of}
 use Rattle.walk.specs.Missing.{missing}
 use Rattle.walk.proofs.Calls.{root-in}

@@ -5,7 +5,7 @@ use native.Mathlib.Omega.{arith}
 use native.Mathlib.Nat.{add-zero}
 use lib.ListN.{length}
 use Rattle.store.specs.Store.{Store, storeOf, mark, pointerTo}
-use Rattle.store.specs.Count.{lowest, isZero, freeTables}
+use Rattle.store.specs.Count.{lowest, freeTables}
 use Rattle.store.specs.Level.{home, level}
 use Rattle.store.specs.Walk.{slotWord, slotIn, slot, entryAt, resolve}
 use Rattle.store.proofs.Free.{isZero-pos}
@@ -15,7 +15,7 @@ use Rattle.map.specs.Enter.{linked, stored, ifZero, hang, tabled, enterP
 use Rattle.map.proofs.Updates.{length-put}
 use Rattle.map.proofs.Step.{in-words}
 use Rattle.map.proofs.Write.{store-step}
-use Rattle.map.proofs.EnterPage.{part, lacks, plain-leaf, page-slot, Tabled, tabled-there}
+use Rattle.map.proofs.EnterPage.{lacks, plain-leaf, page-slot, Tabled, tabled-there}
 use Rattle.map.proofs.EnterPages.{Ready, first}
 
 -- nothing is hung where a word stands already

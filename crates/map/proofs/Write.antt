@@ -1,7 +1,7 @@
 -- The word of a page whose level-0 table is there becomes v, and frames may change with it: what the walks find then. Assumes nothing.
 use mathlib.Core.Path.{_≡_, refl}
 use mathlib.Core.List.{List}
-use Prim.Native.Nat.{ℕ, _*_, _≤_, _<_}
+use Prim.Native.Nat.{ℕ, _≤_, _<_}
 use native.Mathlib.Omega.{arith}
 use lib.ListN.{length}
 use Rattle.store.specs.Store.{Store, storeOf, Sized, mark}

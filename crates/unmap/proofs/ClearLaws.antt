@@ -11,7 +11,6 @@ use Rattle.page_table_entry.specs.Change.{withBit}
 use Rattle.store.specs.Store.{Store, Sized, mark}
 use Rattle.store.specs.WellFormed.{WellFormed}
 use Rattle.store.specs.Walk.{slotWord, slot, entryAt, resolve}
-use Rattle.store.specs.Outcome.{Smallest, NoReason}
 use Rattle.store.specs.declared.Answer.{Answer}
 use Rattle.store.specs.declared.Answer.the-variants.{Refused, Done}
 use Rattle.store.proofs.Outcomes.{one-outcome}

@@ -1,18 +1,17 @@
 -- What clearing U means: the page's word has no U, and everything else is as it was. Assumes nothing.
 use mathlib.Core.Path.{_≡_, refl, sym, ap, _∙_, subst}
 use mathlib.Core.Logic.{by-cases}
-use mathlib.Core.List.{List}
-use Prim.Native.Nat.{ℕ, _+_, _-_, _*_, _/_, _%_, _^_, _≤_, _<_}
+use Prim.Native.Nat.{ℕ, _-_, _/_, _%_, _^_, _≤_, _<_}
 use native.Mathlib.Decide.{ℕ-discrete, decLt}
 use native.Mathlib.Omega.{arith}
 use Rattle.page_table_entry.specs.Layout.{bitU}
 use Rattle.page_table_entry.specs.Change.{withBit}
-use Rattle.store.specs.Store.{Store, Sized, mark, frameNo, poolNo}
+use Rattle.store.specs.Store.{Store, Sized, mark, frameNo}
 use Rattle.store.specs.Level.{home}
 use Rattle.store.specs.WellFormed.{WellFormed}
 use Rattle.store.specs.Walk.{slotWord, slot, entryAt, resolve}
 use Rattle.store.specs.declared.Answer.the-variants.{Done}
-use Rattle.store.proofs.Tree.{LeafIn, Tree, TreeOf, top, tree-of, well-formed-of}
+use Rattle.store.proofs.Tree.{Tree, TreeOf, top, tree-of, well-formed-of}
 use Rattle.store.proofs.Walk.{top-of}
 use Rattle.walk.proofs.Spans.{Upd}
 use Rattle.map.specs.Enter.{putSlot, stored}

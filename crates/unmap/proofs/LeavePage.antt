@@ -24,7 +24,7 @@ use Rattle.map.proofs.Leaves.{tree-leaf, tree-unpooled}
 use Rattle.map.proofs.Write.{leaf-level, leaf-upd, leaf-here, leaf-rest, leaf-sized}
 use Rattle.unmap.specs.Leave.{PoolFrame, givenBack, leaveSlot, leavePage}
 use Rattle.unmap.specs.Gone.{inPool}
-use Rattle.unmap.proofs.PoolLaws.{leaf-of, held-pool}
+use Rattle.unmap.proofs.PoolLaws.{leaf-of}
 
 -- page p has left root r
 pub record Left (s s′ : Store) (r p : ℕ) (freeing : Bool) : Type 0 where

@@ -6,15 +6,15 @@ use Prim.Native.Nat.{ℕ, zero, suc, _+_, _-_, _/_, _%_, _^_, _≤_, _<_}
 use native.Mathlib.Nat.{add-zero, add-suc, suc-add}
 use native.Mathlib.Omega.{arith}
 use lib.ListN.{length}
-use Rattle.store.specs.Store.{Store, storeOf, Sized, mark}
+use Rattle.store.specs.Store.{Store, Sized, mark}
 use Rattle.store.specs.Level.{home, level}
 use Rattle.store.specs.Walk.{slotWord, slot, entryAt, resolve}
 use Rattle.store.proofs.Tree.{TreeOf, top, tree-of}
-use Rattle.store.proofs.Walk.{top-of, depth, above}
+use Rattle.store.proofs.Walk.{depth, above}
 use Rattle.walk.proofs.Calls.{root-in}
 use Rattle.map.proofs.Step.{in-words}
 use Rattle.map.proofs.Runs.{next-slot}
-use Rattle.unmap.specs.Leave.{PoolFrame, leaveSlot, leavePage, leavePages, leaveRun, CanLeave}
+use Rattle.unmap.specs.Leave.{PoolFrame, leavePage, leavePages, leaveRun, CanLeave}
 use Rattle.unmap.proofs.LeavePage.{Left, slotted, page-left}
 
 -- pages p .. p + n - 1 of root r may leave

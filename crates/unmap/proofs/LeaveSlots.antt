@@ -1,10 +1,9 @@
 -- What the code of a slot and of a run does to words and frame marks, as the definitions say it of a store. Assumes nothing.
-use mathlib.Core.Path.{_≡_, refl, sym, ap, ap₂, _∙_}
+use mathlib.Core.Path.{_≡_, sym, ap, ap₂, _∙_}
 use mathlib.Core.Bool.{Bool, true, false, cond}
 use mathlib.Core.List.{List}
 use Prim.Native.Nat.{ℕ, suc, _+_, _-_, _≤_, _<_}
 use native.Mathlib.Omega.{arith}
-use lib.Dec.{leb}
 use lib.ListN.{set, getD}
 use borrow.Author.Tests.{le-leb, lt-leb}
 use Rattle.store.specs.Store.{Store, storeOf, frameNo}

@@ -1,9 +1,9 @@
 -- Words that name pool frames, and how they are counted: bits 27 to 63 are 8. Assumes nothing.
-use mathlib.Core.Path.{_≡_, sym, ap, _∙_}
-use Prim.Native.Nat.{ℕ, _+_, _-_, _*_, _/_, _%_, _^_, _≤_, _<_}
+use mathlib.Core.Path.{_≡_}
+use Prim.Native.Nat.{ℕ, _-_, _/_, _%_, _^_, _≤_, _<_}
 use native.Mathlib.Omega.{arith}
 use lib.Bits.{bitAnd, and-high, and-mask}
-use Rattle.store.specs.Store.{Store, Sized, mark, frameNo, poolNo}
+use Rattle.store.specs.Store.{Store, Sized, mark, frameNo}
 use Rattle.store.specs.WellFormed.{WellFormed}
 use Rattle.store.specs.Walk.{slotWord, slot, entryAt, resolve}
 use Rattle.store.proofs.Scans.{in-range}

@@ -12,7 +12,7 @@ use Rattle.store.specs.Outcome.{NoReason, Judges}
 use Rattle.store.proofs.Outcomes.{judges-no, judges-ok}
 use Rattle.well_formed.specs.Check.{Judged}
 use Rattle.well_formed.proofs.Verdict.{judged-no}
-use Rattle.unmap.specs.Leave.{Asked, LeaveReason, pooled, unmapped, bare, LeaveReady}
+use Rattle.unmap.specs.Leave.{LeaveReason, pooled, unmapped, bare, LeaveReady}
 use Rattle.unmap.specs.Unmap.{TooHigh, UnmapReason, sizes, unformed, no-root, too-high, unaligned, pages, UnmapReady}
 
 -- where no page lies too high, the last one does not

@@ -1,14 +1,14 @@
 -- Counting the pages of a range by bits of their words, part by part. Assumes nothing.
-use mathlib.Core.Path.{_≡_, refl, sym, ap, _∙_}
+use mathlib.Core.Path.{_≡_, sym, ap, _∙_}
 use mathlib.Core.Logic.{by-cases}
 use mathlib.Core.List.{List}
-use Prim.Native.Nat.{ℕ, zero, suc, _+_, _-_, _*_, _/_, _%_, _≤_, _<_}
-use native.Mathlib.Decide.{decLe, decLt}
+use Prim.Native.Nat.{ℕ, _+_, _-_, _*_, _/_, _%_, _≤_, _<_}
+use native.Mathlib.Decide.{decLe}
 use native.Mathlib.Omega.{arith}
 use lib.Bits.{bitAnd}
 use lib.ListN.{length, List·getD-eq-default}
 use Rattle.store.specs.Store.{word}
-use Rattle.store.specs.Sum.{sum, same}
+use Rattle.store.specs.Sum.{same}
 use Rattle.store.specs.Walk.{slotWord, slotIn, slot}
 use Rattle.store.proofs.Sums.{same-no, sum-split, sum-cong}
 use Rattle.store.proofs.Tree.{word-slot}

@@ -1,5 +1,4 @@
 -- `grow::sizes::shrunk` meets its contract. Assumes nothing.
-use borrow.Author.Needs.{needs}
 use borrow.Author.Tests.{le-leb, lt-leb}
 use Rattle.grow.proofs.sizes.shrunk.Statement.{statement}
 use Rattle.grow.proofs.sizes.shrunk.Tie as tie

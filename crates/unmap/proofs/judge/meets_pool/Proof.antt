@@ -2,7 +2,6 @@
 use mathlib.Core.Path.{sym, _∙_}
 use mathlib.Core.Bool.{true≢false}
 use native.Mathlib.Omega.{arith}
-use borrow.Author.Needs.{needs}
 use Rattle.store.specs.Store.{storeOf}
 use Rattle.walk.proofs.Calls.{root-in}
 use Rattle.unmap.proofs.LeaveReasons.{pool-met, pool-not-met}
