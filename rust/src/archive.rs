@@ -104,6 +104,20 @@ extern "C" {
         va: u64,
     ) -> Reply;
 
+    pub fn ronakvesh_uvm_dealloc(
+        words: *mut u64,
+        words_length: usize,
+        tmarks: *const u32,
+        tmarks_length: usize,
+        bytes: *const u8,
+        bytes_length: usize,
+        fmarks: *mut u32,
+        fmarks_length: usize,
+        root: u64,
+        old: u64,
+        new: u64,
+    ) -> Reply;
+
     pub fn ronakvesh_pgt_translate(
         words: *const u64,
         words_length: usize,

@@ -235,6 +235,45 @@ impl Store<'_> {
         reply.result().map(|_| ())
     }
 
+    /// Shrinks what a root maps from page 0 on from `old` to `new` bytes: the pages that `old` bytes take and `new` bytes do not
+    /// leave the root, and their pool frames are given back and keep their bytes. Frames outside the pool are left alone, and
+    /// tables stay. Answers `new`, or `old` where `new` is no less, and then no page leaves.
+    ///
+    /// Refuses with [`Sizes`](Refusal::Sizes), [`NotWellFormed`](Refusal::NotWellFormed), [`NoRoot`](Refusal::NoRoot),
+    /// [`TooHigh`](Refusal::TooHigh), [`NotMapped`](Refusal::NotMapped), [`OnlyValid`](Refusal::OnlyValid).
+    ///
+    /// ```
+    /// # use ronakvesh::{PhysicalAddress, Refusal, Store, VirtualAddress};
+    /// # let (mut words, mut tmarks, mut bytes, mut fmarks) = ([0; 512 * 3], [0; 3], [0; 4096], [0; 1]);
+    /// # let mut store = Store { words: &mut words, tmarks: &mut tmarks, bytes: &mut bytes, fmarks: &mut fmarks };
+    /// let root = store.uvmcreate()?;
+    /// store.map(root, VirtualAddress(0), PhysicalAddress(0x8000_0000), 8192, 22)?;
+    /// assert_eq!(store.uvm_dealloc(root, 8193, 1), Err(Refusal::NotMapped));
+    /// assert_eq!(store.uvm_dealloc(root, 8192, 1), Ok(1));
+    /// assert_eq!(store.pgt_translate(root, VirtualAddress(4095)), Ok(PhysicalAddress(0x8000_0000)));
+    /// assert_eq!(store.pgt_translate(root, VirtualAddress(4096)), Err(Refusal::NotMapped));
+    /// assert_eq!(store.uvm_dealloc(root, 1, 8192), Ok(1));
+    /// # Ok::<(), ronakvesh::Refusal>(())
+    /// ```
+    pub fn uvm_dealloc(&mut self, root: u64, old: u64, new: u64) -> Result<u64, Refusal> {
+        let reply = unsafe {
+            archive::ronakvesh_uvm_dealloc(
+                self.words.as_mut_ptr(),
+                self.words.len(),
+                self.tmarks.as_ptr(),
+                self.tmarks.len(),
+                self.bytes.as_ptr(),
+                self.bytes.len(),
+                self.fmarks.as_mut_ptr(),
+                self.fmarks.len(),
+                root,
+                old,
+                new,
+            )
+        };
+        reply.result()
+    }
+
     /// The address of the frame that the page of `va` resolves to in a root, without the offset.
     ///
     /// Refuses with [`Sizes`](Refusal::Sizes), [`NotWellFormed`](Refusal::NotWellFormed), [`NoRoot`](Refusal::NoRoot),

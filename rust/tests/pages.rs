@@ -1,4 +1,4 @@
-//! What `uvm_unmap` and `uvm_clear` write, and that they write nothing else.
+//! What `uvm_unmap`, `uvm_clear` and `uvm_dealloc` answer and write, and that they write nothing else.
 
 mod memory;
 
@@ -32,6 +32,15 @@ fn unmap(va: u64, pages: u64, freeing: bool) -> impl Fn(&mut Store) -> Result<()
 
 fn clear(va: u64) -> impl Fn(&mut Store) -> Result<(), Refusal> {
     move |store| store.uvm_clear(0, VirtualAddress(va))
+}
+
+/// Shrinks root 0, and holds the call to its answer.
+fn shrink(old: u64, new: u64, answer: u64) -> impl Fn(&mut Store) -> Result<(), Refusal> {
+    move |store| {
+        let given = store.uvm_dealloc(0, old, new)?;
+        assert_eq!(given, answer, "{old} to {new}");
+        Ok(())
+    }
 }
 
 #[test]
@@ -106,4 +115,65 @@ fn a_zero_word_stays_zero() {
     makes(&mut memory, clear(4096), |_| ());
     makes(&mut memory, unmap(0, 1, false), |after| after.words[WORD] = 0);
     makes(&mut memory, clear(0), |_| ());
+}
+
+#[test]
+fn pages_past_the_size_leave() {
+    for (old, new, first) in [(16384, 4096, 1), (12289, 4097, 2), (16383, 8191, 2), (12289, 12288, 3), (16384, 0, 0)] {
+        let mut memory = mapped(0, 0x8000_0000, 5);
+        makes(&mut memory, shrink(old, new, new), |after| after.words[WORD + first..WORD + 4].fill(0));
+        makes(&mut memory, shrink(new, new, new), |_| ());
+    }
+}
+
+#[test]
+fn the_page_of_the_last_byte_stays() {
+    let mut memory = mapped(0, 0x8000_0000, 3);
+    makes(&mut memory, shrink(12288, 8193, 8193), |_| ());
+    makes(&mut memory, shrink(8193, 8192, 8192), |after| after.words[WORD + 2] = 0);
+    makes(&mut memory, shrink(8192, 1, 1), |after| after.words[WORD + 1] = 0);
+    assert_eq!(memory.store().pgt_translate(0, VirtualAddress(0)), Ok(PhysicalAddress(0x8000_0000)));
+    makes(&mut memory, shrink(1, 0, 0), |after| after.words[WORD] = 0);
+}
+
+#[test]
+fn a_size_that_is_no_less() {
+    let mut memory = mapped(0, 0x8000_0000, 3);
+    for old in [0, 1, 4096, 8193, 12288, 12289, (1 << 38) - 1, 1 << 38] {
+        for new in [old, old + 1, old + 4096, 1 << 38] {
+            if new <= 1 << 38 {
+                makes(&mut memory, shrink(old, new, old), |_| ());
+            }
+        }
+    }
+}
+
+#[test]
+fn sizes_of_two_blocks() {
+    let mut memory = mapped((1 << 30) - 4096, 0x8000_0000, 3);
+    makes(&mut memory, shrink((1 << 30) + 1, (1 << 30) - 4096, (1 << 30) - 4096), |after| {
+        after.words[512 * 2 + 511] = 0;
+        after.words[512 * 4] = 0;
+    });
+}
+
+#[test]
+fn pool_frames_past_the_size_are_given_back_with_their_bytes() {
+    let mut memory = mapped(0, 0x8000_0000, 4);
+    for (page, frame) in [(0, 5), (1, 2), (3, 7)] {
+        memory.enter(WORD + page, frame);
+    }
+    memory.bytes.fill(9);
+    makes(&mut memory, shrink(12289, 4097, 4097), |after| {
+        after.words[WORD + 2..WORD + 4].fill(0);
+        after.fmarks[7] = 0;
+    });
+    makes(&mut memory, shrink(4097, 4095, 4095), |after| {
+        after.words[WORD + 1] = 0;
+        after.fmarks[2] = 0;
+    });
+    makes(&mut memory, shrink(4095, 0, 0), |after| {
+        after.words[WORD] = 0;
+        after.fmarks[5] = 0;
+    });
 }

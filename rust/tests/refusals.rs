@@ -43,6 +43,7 @@ fn all_refuse(memory: &mut Memory, refusal: Refusal) {
     refuses(memory, refusal, |store| unmap(store, 0, 0, 1));
     refuses(memory, refusal, |store| free(store, 0, 1));
     refuses(memory, refusal, |store| clear(store, 0, 0));
+    refuses(memory, refusal, |store| store.uvm_dealloc(0, 0, 0));
     refuses(memory, refusal, |store| find(store, 0, 0));
     refuses(memory, refusal, |store| store.as_satp(0));
 }
@@ -89,11 +90,13 @@ fn no_root() {
         refuses(&mut memory, Refusal::NoRoot, |store| map(store, root, 0, FRAME, 4096));
         refuses(&mut memory, Refusal::NoRoot, |store| unmap(store, root, 0, 0));
         refuses(&mut memory, Refusal::NoRoot, |store| clear(store, root, 0));
+        refuses(&mut memory, Refusal::NoRoot, |store| store.uvm_dealloc(root, 0, 0));
         refuses(&mut memory, Refusal::NoRoot, |store| find(store, root, 0));
         refuses(&mut memory, Refusal::NoRoot, |store| store.as_satp(root));
     }
     assert_eq!(memory.store().as_satp(0), Ok(0x8000_0000_0010_0000));
     assert_eq!(unmap(&mut memory.store(), 0, 0, 0), Ok(()));
+    assert_eq!(memory.store().uvm_dealloc(0, 0, 0), Ok(0));
 }
 
 #[test]
@@ -120,6 +123,20 @@ fn too_high_for_a_page() {
     }
     assert_eq!(clear(&mut memory.store(), 0, END - 1), Ok(()));
     assert_eq!(unmap(&mut memory.store(), 0, END - 4096, 1), Ok(()));
+}
+
+#[test]
+fn too_large() {
+    let mut memory = Memory::with_root(8);
+    assert_eq!(map(&mut memory.store(), 0, END - 4096, FRAME, 4096), Ok(2));
+    for large in [END + 1, END + 4096, u64::MAX - 4095, u64::MAX] {
+        for other in [0, END - 4096, END, END + 1, u64::MAX] {
+            refuses(&mut memory, Refusal::TooHigh, |store| store.uvm_dealloc(0, large, other));
+            refuses(&mut memory, Refusal::TooHigh, |store| store.uvm_dealloc(0, other, large));
+        }
+    }
+    assert_eq!(memory.store().uvm_dealloc(0, END, END), Ok(END));
+    assert_eq!(memory.store().uvm_dealloc(0, END, END - 4096), Ok(END - 4096));
 }
 
 #[test]
@@ -196,6 +213,17 @@ fn not_mapped_to_be_unmapped() {
 }
 
 #[test]
+fn not_mapped_to_be_given_up() {
+    let mut memory = Memory::with_root(8);
+    assert_eq!(map(&mut memory.store(), 0, 4096, FRAME, 8192), Ok(2));
+    for (old, new) in [(12288, 0), (12289, 4096), (12289, 8192), (1 << 21, 12288), ((1 << 30) + 1, 1 << 30), (END, 0)] {
+        refuses(&mut memory, Refusal::NotMapped, |store| store.uvm_dealloc(0, old, new));
+    }
+    assert_eq!(memory.store().uvm_dealloc(0, 12288, 1), Ok(1));
+    refuses(&mut memory, Refusal::NotMapped, |store| store.uvm_dealloc(0, 12288, 1));
+}
+
+#[test]
 fn no_table_to_clear_in() {
     let mut memory = Memory::with_root(8);
     refuses(&mut memory, Refusal::NotMapped, |store| clear(store, 0, 0));
@@ -222,8 +250,23 @@ fn only_valid() {
         if refused {
             refuses(&mut memory, Refusal::OnlyValid, |store| unmap(store, 0, 0, 2));
             refuses(&mut memory, Refusal::OnlyValid, |store| free(store, 0, 2));
+            refuses(&mut memory, Refusal::OnlyValid, |store| store.uvm_dealloc(0, 4097, 0));
         } else {
             assert_eq!(unmap(&mut memory.store(), 0, 0, 2), Ok(()));
+        }
+    }
+}
+
+#[test]
+fn only_valid_to_be_given_up() {
+    for (perm, refused) in [(0, true), (1, true), (2, false), (16, false), (512, false)] {
+        let mut memory = Memory::with_root(8);
+        assert_eq!(map_with(&mut memory.store(), perm), Ok(2));
+        if refused {
+            refuses(&mut memory, Refusal::OnlyValid, |store| store.uvm_dealloc(0, 4096, 0));
+            assert_eq!(memory.store().uvm_dealloc(0, 4096, 1), Ok(1));
+        } else {
+            assert_eq!(memory.store().uvm_dealloc(0, 4096, 0), Ok(0));
         }
     }
 }
@@ -271,5 +314,9 @@ fn the_smallest_is_given_for_pages() {
     refuses(&mut memory, Refusal::OnlyValid, |store| free(store, 0, 2));
     refuses(&mut memory, Refusal::NoRoot, |store| clear(store, 1, END));
     refuses(&mut memory, Refusal::TooHigh, |store| clear(store, 0, END));
+    refuses(&mut memory, Refusal::NoRoot, |store| store.uvm_dealloc(1, END + 1, 0));
+    refuses(&mut memory, Refusal::TooHigh, |store| store.uvm_dealloc(0, END + 1, 0));
+    refuses(&mut memory, Refusal::NotMapped, |store| store.uvm_dealloc(0, 8193, 0));
+    refuses(&mut memory, Refusal::OnlyValid, |store| store.uvm_dealloc(0, 8192, 0));
     assert_eq!(free(&mut memory.store(), 4096, 1), Ok(()));
 }
