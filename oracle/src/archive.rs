@@ -150,4 +150,5 @@ calls! {
     map = ronakvesh_map(root, va, pa, size, permissions);
     uvm_unmap = ronakvesh_uvm_unmap(root, va, pages, freeing: bool);
     uvm_clear = ronakvesh_uvm_clear(root, va);
+    uvm_dealloc = ronakvesh_uvm_dealloc(root, old, new);
 }

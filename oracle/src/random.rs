@@ -6,6 +6,7 @@ pub const SEED: u64 = 0x526F_6E61_6B76_6573;
 const STREAM: u64 = 0xD1B5_4A32_D192_ED03;
 
 /// A splitmix64 generator.
+#[derive(Clone)]
 pub struct Random(u64);
 
 impl Random {

@@ -5,7 +5,7 @@ use crate::answer::{Answer, Build};
 use crate::archive::{self, Numbers, Reply, Slices, NO_NUMBERS};
 use crate::call::inputs::{self, Inputs};
 use crate::call::listed;
-use crate::call::{map, original, uvm_clear, uvm_unmap, uvmcreate};
+use crate::call::{map, original, uvm_clear, uvm_dealloc, uvm_unmap, uvmcreate};
 use crate::listed::Listed;
 use crate::model::calls;
 use crate::model::numbers::ROOT;
@@ -32,6 +32,8 @@ pub struct Call {
     pub numbers: usize,
     /// How often it is made where others are made once.
     pub times: u64,
+    /// Whether its random choices come from a copy of the stream, so that those for other calls and stores do not depend on it.
+    pub apart: bool,
     pub writes: Writes,
     /// Numbers to make it with.
     pub any: fn(&Inputs, &mut Random) -> Numbers,
@@ -61,11 +63,12 @@ impl Call {
 }
 
 /// Every call that is compared.
-pub static CALLS: [Call; 6] = [
+pub static CALLS: [Call; 7] = [
     Call {
         name: "pgt_translate",
         numbers: 2,
         times: 1,
+        apart: false,
         writes: Writes::Nothing,
         any: inputs::root_and_address,
         vary: None,
@@ -83,6 +86,7 @@ pub static CALLS: [Call; 6] = [
         name: "as_satp",
         numbers: 1,
         times: 1,
+        apart: false,
         writes: Writes::Nothing,
         any: inputs::root,
         vary: None,
@@ -100,6 +104,7 @@ pub static CALLS: [Call; 6] = [
         name: "uvmcreate",
         numbers: 0,
         times: 1,
+        apart: false,
         writes: Writes::Tables,
         any: |_, _| NO_NUMBERS,
         vary: Some(uvmcreate::vary),
@@ -117,6 +122,7 @@ pub static CALLS: [Call; 6] = [
         name: "map",
         numbers: 5,
         times: 2,
+        apart: false,
         writes: Writes::Tables,
         any: map::inputs::any,
         vary: None,
@@ -134,6 +140,7 @@ pub static CALLS: [Call; 6] = [
         name: "uvm_unmap",
         numbers: 4,
         times: 1,
+        apart: false,
         writes: Writes::Frames,
         any: uvm_unmap::inputs::any,
         vary: None,
@@ -151,6 +158,7 @@ pub static CALLS: [Call; 6] = [
         name: "uvm_clear",
         numbers: 2,
         times: 1,
+        apart: false,
         writes: Writes::Tables,
         any: inputs::root_and_address,
         vary: None,
@@ -163,6 +171,24 @@ pub static CALLS: [Call; 6] = [
         differences: &uvm_clear::DIFFERENCES,
         when_checked: &[],
         listed: uvm_clear::clearing,
+    },
+    Call {
+        name: "uvm_dealloc",
+        numbers: 3,
+        times: 1,
+        apart: true,
+        writes: Writes::Frames,
+        any: uvm_dealloc::inputs::any,
+        vary: None,
+        buffer: None,
+        ours: archive::uvm_dealloc,
+        model: |store, [root, old, new, ..], _| calls::uvm_dealloc(store, root, old, new),
+        may_run: is_root,
+        rust: original::uvm_dealloc,
+        refusals: &[1, 2, 3, 6, 11, 13],
+        differences: &uvm_dealloc::listed::DIFFERENCES,
+        when_checked: &[uvm_dealloc::listed::EARLY],
+        listed: uvm_dealloc::listed::shrinking,
     },
 ];
 

@@ -14,5 +14,6 @@ pub mod run;
 pub mod tally;
 pub mod tried;
 pub mod uvm_clear;
+pub mod uvm_dealloc;
 pub mod uvm_unmap;
 pub mod uvmcreate;

@@ -29,4 +29,4 @@ pub fn absent(_: Numbers, _: &mut [u8]) -> Answer {
 }
 
 pub use {absent as as_satp, absent as map, absent as pgt_translate};
-pub use {absent as uvm_clear, absent as uvm_unmap, absent as uvmcreate};
+pub use {absent as uvm_clear, absent as uvm_dealloc, absent as uvm_unmap, absent as uvmcreate};

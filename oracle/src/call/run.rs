@@ -45,6 +45,8 @@ impl Run {
         self.stores += 1;
         self.well_formed += u64::from(tried.well_formed);
         for (place, call) in CALLS.iter().enumerate() {
+            let mut copy = random.clone();
+            let random = if call.apart { &mut copy } else { &mut *random };
             for _ in 0..calls * call.times {
                 tried.vary(call, random);
                 let numbers = (call.any)(inputs, random);

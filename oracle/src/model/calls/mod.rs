@@ -8,6 +8,7 @@ mod pgt_translate;
 mod set_up;
 mod uvm_alloc;
 mod uvm_clear;
+mod uvm_dealloc;
 mod uvm_unmap;
 mod uvmcreate;
 
@@ -18,5 +19,6 @@ pub use pgt_translate::pgt_translate;
 pub use set_up::set_up;
 pub use uvm_alloc::uvm_alloc;
 pub use uvm_clear::uvm_clear;
+pub use uvm_dealloc::uvm_dealloc;
 pub use uvm_unmap::uvm_unmap;
 pub use uvmcreate::uvmcreate;

@@ -6,6 +6,7 @@ use crate::model::numbers::{PAGE, PAGES};
 use crate::model::pool::give_back_frame;
 use crate::model::walk::mapped_word;
 use crate::model::Store;
+use std::ops::Range;
 
 /// Unmaps `npages` pages; with freeing, their pool frames are given back. Answer: 0.
 pub fn uvm_unmap(store: &mut Store, root: u64, va: u64, npages: u64, freeing: bool) -> Result<u64, u64> {
@@ -16,10 +17,17 @@ pub fn uvm_unmap(store: &mut Store, root: u64, va: u64, npages: u64, freeing: bo
     let pages = first..first + npages;
     judge::height(&pages)?;
     refuse(7, va % PAGE != 0)?;
+    leave(store, root, pages, freeing)?;
+    Ok(0)
+}
+
+/// Takes pages below 2^38 out of a root: 10, 11, 13.
+pub fn leave(store: &mut Store, root: usize, pages: Range<u64>, freeing: bool) -> Result<(), u64> {
+    let number = pages.end - pages.start;
     let mapped: Vec<usize> = pages.filter_map(|page| mapped_word(store, root, page)).collect();
     let frame_of = |store: &Store, word: usize| pool_frame(store, address(store.words[word]));
     refuse(10, !freeing && mapped.iter().any(|&word| frame_of(store, word).is_some()))?;
-    refuse(11, (mapped.len() as u64) < npages)?;
+    refuse(11, (mapped.len() as u64) < number)?;
     refuse(13, mapped.iter().any(|&word| flags(store.words[word]) == V))?;
     for word in mapped {
         if let Some(frame) = frame_of(store, word) {
@@ -27,5 +35,5 @@ pub fn uvm_unmap(store: &mut Store, root: u64, va: u64, npages: u64, freeing: bo
         }
         store.words[word] = 0;
     }
-    Ok(0)
+    Ok(())
 }
