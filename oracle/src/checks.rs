@@ -4,6 +4,7 @@
 #[allow(dead_code)] // declares the helpers too
 mod archive;
 mod check;
+#[allow(dead_code, unused_imports)] // has calls that build no store too
 mod model;
 mod random;
 
