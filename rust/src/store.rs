@@ -235,9 +235,9 @@ impl Store<'_> {
         reply.result().map(|_| ())
     }
 
-    /// Shrinks what a root maps from page 0 on from `old` to `new` bytes: the pages that `old` bytes take and `new` bytes do not
-    /// leave the root, and their pool frames are given back and keep their bytes. Frames outside the pool are left alone, and
-    /// tables stay. Answers `new`, or `old` where `new` is no less, and then no page leaves.
+    /// Shrinks what a root maps from page 0 on from `old` to `new` bytes: the pages that `old` bytes take and `new` bytes
+    /// do not leave the root, and their pool frames are given back and keep their bytes. Frames outside the pool are left
+    /// alone, and tables stay. Answers `new`, or `old` where `new` is no less, and then no page leaves.
     ///
     /// Refuses with [`Sizes`](Refusal::Sizes), [`NotWellFormed`](Refusal::NotWellFormed), [`NoRoot`](Refusal::NoRoot),
     /// [`TooHigh`](Refusal::TooHigh), [`NotMapped`](Refusal::NotMapped), [`OnlyValid`](Refusal::OnlyValid).

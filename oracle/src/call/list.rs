@@ -32,7 +32,8 @@ pub struct Call {
     pub numbers: usize,
     /// How often it is made where others are made once.
     pub times: u64,
-    /// Whether its random choices come from a copy of the stream, so that those for other calls and stores do not depend on it.
+    /// Whether its random choices come from a copy of the stream, so that those for other calls and later stores do not
+    /// depend on it.
     pub apart: bool,
     pub writes: Writes,
     /// Numbers to make it with.
