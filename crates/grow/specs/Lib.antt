@@ -1,4 +1,7 @@
--- What the contract of `uvm_dealloc` cites, and what filling a slot with a fresh frame makes of a store.
+-- What the contracts of `uvm_init`, `uvm_alloc` and `uvm_dealloc` cite.
 pub mod Sizes
-pub mod Shrink
 pub mod Fill
+pub mod Fresh
+pub mod Init
+pub mod Grow
+pub mod Shrink

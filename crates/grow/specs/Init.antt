@@ -1,0 +1,36 @@
+-- `uvm_init`: why it is refused, and the store afterwards.
+use mathlib.Core.Path.{_≡_}
+use mathlib.Core.List.{List, _++_}
+use Prim.Native.Nat.{ℕ, _-_, _≤_, _<_}
+use lib.ListN.{length, replicate}
+use Rattle.store.specs.Store.{Store, Sized, mark}
+use Rattle.store.specs.WellFormed.{WellFormed}
+use Rattle.store.specs.Outcome.{Outcome}
+use Rattle.store.specs.declared.Answer.{Answer}
+use Rattle.grow.specs.Fresh.{FreshReason, FreshReady, freshPage}
+
+pub data InitReason (s : Store) (root : ℕ) (src : List ℕ) : ℕ → Type 0 where
+  sizes : (Sized s → ⊥) → InitReason s root src 1
+  unformed : (WellFormed s → ⊥) → InitReason s root src 2
+  no-root : (mark (s .tmarks) root ≡ 1 → ⊥) → InitReason s root src 3
+  too-long : 4096 ≤ length src → InitReason s root src 5
+  page : {k : ℕ} → FreshReason s root 0 1 k → InitReason s root src k
+
+-- what holds where none of them applies
+pub record InitReady (s : Store) (root : ℕ) (src : List ℕ) : Type 0 where
+  pub sized : Sized s
+  pub formed : WellFormed s
+  pub is-root : mark (s .tmarks) root ≡ 1
+  pub short : length src < 4096
+  pub page : FreshReady s root 0 1
+
+-- the source, then zeros
+abbrev pub padded : List ℕ → List ℕ
+padded src = src ++ replicate (4096 - length src) 0
+
+-- page 0 has a frame with the flags 31 (V, R, W, X and U) that holds this; the answer names no value, and it is 0
+abbrev pub InitDone : Store → ℕ → List ℕ → ℕ → Store → Type 0
+InitDone s root src v s′ = (v ≡ 0) × (s′ ≡ freshPage s root 0 31 (padded src))
+
+abbrev pub Init : Store → ℕ → List ℕ → Answer → Store → Type 0
+Init s root src r s′ = Outcome (InitReason s root src) (InitDone s root src) s r s′
