@@ -5,8 +5,7 @@ use Prim.Native.Nat.{ℕ, zero, suc, _+_, _≤_, _<_}
 use native.Mathlib.Nat.{add-zero, zero-add, suc-add, add-suc}
 use native.Mathlib.Numerals.{add-one}
 use native.Mathlib.Omega.{arith}
-use lib.ListN.{length, drop, getD}
-use lib.Seq.{drop-cons}
+use lib.ListN.{length, getD}
 use Rattle.store.specs.Store.{mark}
 use Rattle.store.specs.Count.{lowest, isZero, zeros, free}
 
@@ -18,21 +17,19 @@ pub isZero-le : (m : ℕ) → isZero m ≤ 1
 isZero-le zero = omega arith
 isZero-le (suc m) = omega arith
 
-lowest-zero : (x : ℕ) (l : List ℕ) → x ≡ 0 → lowest (x ∷ l) ≡ 0
-lowest-zero zero l e = refl
-lowest-zero (suc x) l e = absurd (omega arith)
+-- a search that has come to i finds it there, or goes on
+pub lowest-here : (ms : List ℕ) (i : ℕ) → i ≤ lowest ms → i < length ms → getD ms i 0 ≡ 0 → i ≡ lowest ms
+lowest-here [] i h l e = absurd (omega arith)
+lowest-here (zero ∷ ms) i h l e = omega arith
+lowest-here (suc x ∷ ms) zero h l e = absurd (omega arith)
+lowest-here (suc x ∷ ms) (suc i) h l e = ap suc (lowest-here ms i (omega arith) (omega arith) e)
 
-lowest-more : (x : ℕ) (l : List ℕ) → (x ≡ 0 → ⊥) → lowest (x ∷ l) ≡ suc (lowest l)
-lowest-more zero l n = absurd (n refl)
-lowest-more (suc x) l n = refl
-
-module _ (ms : List ℕ) (i : ℕ) (h : i < length ms) where
-  -- the search from i on finds i, or goes on from i + 1
-  pub lowest-here : getD ms i 0 ≡ 0 → lowest (drop i ms) ≡ 0
-  lowest-here e = ap lowest (drop-cons ms i 0 h) ∙ lowest-zero (getD ms i 0) (drop (suc i) ms) e
-
-  pub lowest-next : (getD ms i 0 ≡ 0 → ⊥) → lowest (drop i ms) ≡ suc (lowest (drop (suc i) ms))
-  lowest-next n = ap lowest (drop-cons ms i 0 h) ∙ lowest-more (getD ms i 0) (drop (suc i) ms) n
+pub lowest-next : (ms : List ℕ) (i : ℕ) → i ≤ lowest ms → i < length ms → (getD ms i 0 ≡ 0 → ⊥) → suc i ≤ lowest ms
+lowest-next [] i h l n = absurd (omega arith)
+lowest-next (zero ∷ ms) zero h l n = absurd (n refl)
+lowest-next (zero ∷ ms) (suc i) h l n = absurd (omega arith)
+lowest-next (suc x ∷ ms) zero h l n = omega arith
+lowest-next (suc x ∷ ms) (suc i) h l n = omega (arith, lowest-next ms i (omega arith) (omega arith) n)
 
 -- one number more
 pub zeros-next : (g : ℕ → ℕ) (n c : ℕ) → zeros g (suc n) c ≡ zeros g n c + isZero (g (c + n))

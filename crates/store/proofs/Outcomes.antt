@@ -1,13 +1,17 @@
--- Two outcomes of one call are the same, whatever the call. Assumes nothing.
-use mathlib.Core.Path.{_≡_, sym, ap, _∙_}
-use mathlib.Core.Logic.{by-cases}
-use Prim.Native.Nat.{ℕ}
+-- Two outcomes of one call are the same, whatever the call; and what a judge of several parts answers. Assumes nothing.
+use mathlib.Core.Path.{_≡_, refl, sym, ap, _∙_}
+use mathlib.Core.Logic.{_⊎_, ⊎-elim, by-cases}
+use Prim.Native.Nat.{ℕ, _<_}
 use native.Mathlib.Decide.{decLt}
 use native.Mathlib.Omega.{arith}
 use Rattle.store.specs.Store.{Store}
-use Rattle.store.specs.Outcome.{Smallest, Outcome, Judges}
+use Rattle.store.specs.Outcome.{Smallest, NoReason, Outcome, Judges}
 use Rattle.store.specs.declared.Answer.{Answer}
 use Rattle.store.specs.declared.Answer.the-variants.{Refused, Done}
+
+-- the one reason P, with number n
+abbrev pub Just : ℕ → Type 0 → ℕ → Type 0
+Just n P k = (k ≡ n) × P
 
 one-smallest : (R : ℕ → Type 0) (m n : ℕ) → Smallest R m → Smallest R n → m ≡ n
 one-smallest R m n p q =
@@ -28,3 +32,25 @@ judges-no R F n h s = record { ready = λ e. absurd (h e); reason = λ _. s }
 
 pub judges-ok : (R : ℕ → Type 0) (F : Type 0) (n : ℕ) → n ≡ 0 → F → Judges R F n
 judges-ok R F n e f = record { ready = λ _. f; reason = λ h. absurd (h e) }
+
+-- ---- reasons in two parts, those of A and then those of B: R k is one of the two
+
+module _ {A B R : ℕ → Type 0} (F : Type 0) (split : (k : ℕ) → R k → A k ⊎ B k) where
+  -- one of A is found, and all of B have larger numbers
+  pub first-no : ((k : ℕ) → A k → R k) → ((j k : ℕ) → A j → B k → j < k) → (n : ℕ) → (n ≡ 0 → ⊥) → Smallest A n → Judges R F n
+  first-no up above n h m =
+      judges-no R F n h (record { applies = up n (m .applies); least = λ k l q. ⊎-elim (m .least k l) (λ b. omega (arith, above n k (m .applies) b)) (split k q) })
+
+  -- none of A applies, and B is judged
+  pub then-judged : {G : Type 0} → ((k : ℕ) → B k → R k) → NoReason A → (G → F) → (n : ℕ) → Judges B G n → Judges R F n
+  then-judged up none ready n q = record {
+    ready = λ e. ready (q .ready e);
+    reason = λ h. let m = q .reason h in record { applies = up n (m .applies); least = λ k l x. ⊎-elim (none k) (m .least k l) (split k x) };
+  }
+
+-- a judge of one reason, number n for P
+pub just-no : (n : ℕ) (P G : Type 0) → (n ≡ 0 → ⊥) → P → Judges (Just n P) G n
+just-no n P G h p = judges-no (Just n P) G n h (record { applies = (refl, p); least = λ k l q. omega (arith, q .0) })
+
+pub just-ok : (n : ℕ) (P : Type 0) → (P → ⊥) → Judges (Just n P) (P → ⊥) 0
+just-ok n P h = judges-ok (Just n P) (P → ⊥) 0 refl h

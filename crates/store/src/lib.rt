@@ -3,9 +3,12 @@
 mod fill;
 mod marks;
 
+pub use fill::copy_bytes;
+pub use fill::zero_bytes;
 pub use marks::count_free;
 pub use marks::level_of;
 pub use marks::lowest_free;
+pub use marks::lowest_from;
 pub use marks::mark_at;
 pub use marks::word_at;
 ghost use Rattle.store.specs.Says.{Says};

@@ -1,6 +1,6 @@
 // Words and marks by number, levels, and the free marks.
 ghost use mathlib.Core.Path.{_≡_};
-ghost use Prim.Native.Nat.{_<_, _^_};
+ghost use Prim.Native.Nat.{_<_, _≤_, _^_};
 ghost use Rattle.store.specs.Store.{word, mark};
 ghost use Rattle.store.specs.Level.{level};
 ghost use Rattle.store.specs.Count.{lowest, free};
@@ -50,11 +50,12 @@ pub fn level_of(tmarks: &[u32], t: usize) -> usize
     3
 }
 
-// The lowest table or frame whose mark is 0, or their number where none is.
-pub fn lowest_free(marks: &[u32]) -> usize
+// The lowest table or frame whose mark is 0, or their number where none is; it is known that none below from is free.
+pub fn lowest_from(marks: &[u32], from: usize) -> usize
+    requires { ⌜ from ≤ lowest (now marks) ⌝ }
     ensures { λ r. ⌜ r ≡ lowest (now (marks .entry)) ⌝ }
 {
-    let mut i = 0;
+    let mut i = from;
     while i < marks.len() {
         if marks[i] == 0 {
             return i;
@@ -62,6 +63,13 @@ pub fn lowest_free(marks: &[u32]) -> usize
         i += 1;
     }
     i
+}
+
+// The same where nothing is known.
+pub fn lowest_free(marks: &[u32]) -> usize
+    ensures { λ r. ⌜ r ≡ lowest (now (marks .entry)) ⌝ }
+{
+    lowest_from(marks, 0)
 }
 
 // How many tables or frames are free.

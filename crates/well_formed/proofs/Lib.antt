@@ -5,3 +5,4 @@ pub mod WordLaws
 pub mod MarkLaws
 pub mod Pool
 pub mod Verdict
+pub mod RootReasons

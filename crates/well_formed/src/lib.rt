@@ -12,10 +12,12 @@ use store::Answer;
 ghost use Prim.Native.Nat.{_*_};
 ghost use mathlib.Core.Path.{_≡_};
 ghost use lib.ListN.{length};
+ghost use Rattle.store.specs.Outcome.{Judges};
 ghost use Rattle.store.specs.Says.{Says};
 ghost use Rattle.store.specs.Store.{storeOf, Sized};
 ghost use Rattle.store.specs.WellFormed.{WellFormed};
 ghost use Rattle.well_formed.specs.Check.{Check, Judged};
+ghost use Rattle.well_formed.specs.Root.{RootReason, RootReady};
 
 // What a scan of a part of the words finds: whether they are as they should be, and how many name a frame of the held window.
 pub struct Part {
@@ -57,6 +59,23 @@ pub fn judge_store(words: &[u64], tmarks: &[u32], bytes: &[u8], fmarks: &[u32]) 
     }
     if !formed(words, tmarks, bytes, fmarks) {
         return 2;
+    }
+    0
+}
+
+// The number by which a store or the root named in it is refused, 1, 2 or 3, or 0.
+pub fn judge_root(words: &[u64], tmarks: &[u32], bytes: &[u8], fmarks: &[u32], root: u64) -> u64
+    ensures { λ r. ⌜ Judges
+        (RootReason (storeOf (now (words .entry)) (now (tmarks .entry)) (now (bytes .entry)) (now (fmarks .entry))) root)
+        (RootReady (storeOf (now (words .entry)) (now (tmarks .entry)) (now (bytes .entry)) (now (fmarks .entry))) root)
+        r ⌝ }
+{
+    let no = judge_store(words, tmarks, bytes, fmarks);
+    if no != 0 {
+        return no;
+    }
+    if store::mark_at(tmarks, root as usize) != 1 {
+        return 3;
     }
     0
 }
