@@ -25,14 +25,20 @@ missing-first s r p n =
       span-has (entryAt s r 1) (p / 512) ((p + n) / 512) (omega arith),
     )
 
-module _ (s s′ : Store) (r p e : ℕ) (rr : mark (s .tmarks) r ≡ 1) (en : PageEntered s s′ r p e) where
+-- page p of root r has its two tables, and the root's walks to all others find what they found
+pub record TablesThere (s s′ : Store) (r p : ℕ) : Type 0 where
+  pub group : 0 < entryAt s′ r 0 (p / 512 / 512)
+  pub block : 0 < entryAt s′ r 1 (p / 512)
+  pub rest : (d x : ℕ) → top d x < 256 → d < 2 → (x ≡ part d p → ⊥) → entryAt s′ r d x ≡ entryAt s r d x
+
+module _ (s s′ : Store) (r p : ℕ) (en : TablesThere s s′ r p) where
   groups : (n j : ℕ) → p + n < 2 ^ 26 → p / 512 / 512 < j → j ≤ (p + n) / 512 / 512 → entryAt s′ r 0 j ≡ entryAt s r 0 j
   unfolding top part
-  groups n j h a b = en .rest r 0 j rr (omega arith) (omega arith) (λ _ c. omega arith)
+  groups n j h a b = en .rest 0 j (omega arith) (omega arith) (λ c. omega arith)
 
   blocks : (n j : ℕ) → p + n < 2 ^ 26 → p / 512 < j → j ≤ (p + n) / 512 → entryAt s′ r 1 j ≡ entryAt s r 1 j
   unfolding top part
-  blocks n j h a b = en .rest r 1 j rr (omega arith) (omega arith) (λ _ c. omega arith)
+  blocks n j h a b = en .rest 1 j (omega arith) (omega arith) (λ c. omega arith)
 
   pub missing-step : (n : ℕ) → p + n < 2 ^ 26 → missing s r p (suc n) ≡ lacks s r p + missing s′ r (suc p) n
   missing-step zero h =
@@ -56,6 +62,9 @@ module _ (s s′ : Store) (r p e : ℕ) (rr : mark (s .tmarks) r ≡ 1) (en : Pa
         ap (λ (x : ℕ). span (entryAt s′ r 0) (suc p / 512 / 512) (x / 512 / 512)) c,
         ap (λ (x : ℕ). span (entryAt s′ r 1) (suc p / 512) (x / 512)) c,
       )
+
+pub entered-step : (s s′ : Store) (r p e : ℕ) → mark (s .tmarks) r ≡ 1 → PageEntered s s′ r p e → (n : ℕ) → p + n < 2 ^ 26 → missing s r p (suc n) ≡ lacks s r p + missing s′ r (suc p) n
+entered-step s s′ r p e rr a = missing-step s s′ r p (record { group = a .group; block = a .block; rest = λ d x l b n. a .rest r d x rr l (omega arith) (λ _ c. n c) })
 
 -- ---- n pages
 
@@ -91,7 +100,7 @@ then s s₁ s₂ r p n e rr h a b = record {
   here = here;
   rest = λ r′ x q l ne.
       b .rest r′ x (a .roots r′ .0 q) l (λ c u v. ne c (omega arith) (omega arith)) ∙ a .rest r′ 2 x q (omega arith) (omega arith) (λ c d. ne c (omega arith) (omega arith));
-  free = omega (arith, a .free, b .free, missing-step s s₁ r p e rr a n h);
+  free = omega (arith, a .free, b .free, entered-step s s₁ r p e rr a n h);
 }
   where
     here : (i : ℕ) → i < suc n → resolve s₂ r (p + i) ≡ e + 1024 * i
@@ -134,7 +143,7 @@ enter-pages zero s r p e c f = record {
 enter-pages (suc n) s r p e c f =
     let h = c .range n (omega arith) in
     let q = first n s r p e c (omega (arith, missing-first s r p n)) in
-    let m = missing-step s (enterPage s r p e) r p e (c .root) (q .0) n h in
+    let m = entered-step s (enterPage s r p e) r p e (c .root) (q .0) n h in
     then s (enterPage s r p e) (enterPages (enterPage s r p e) r (suc p) n (e + 1024)) r p n e (c .root) h (q .0)
     (enter-pages n (enterPage s r p e) r (suc p) (e + 1024) (q .1) (omega (arith, q .0 .free, m)))
 
@@ -150,11 +159,11 @@ runs-out zero s r p e c = (λ _. omega (arith, missing-none s r p), λ _. tt)
 runs-out (suc n) s r p e c = (
   λ a.
       let q = first n s r p e c (a .0) in
-      let m = missing-step s (enterPage s r p e) r p e (c .root) (q .0) n (c .range n (omega arith)) in
+      let m = entered-step s (enterPage s r p e) r p e (c .root) (q .0) n (c .range n (omega arith)) in
       omega (arith, q .0 .free, m, runs-out n (enterPage s r p e) r (suc p) (e + 1024) (q .1) .0 (a .1)),
   λ l.
       let f : lacks s r p ≤ freeTables s = omega (arith, missing-first s r p n) in
       let q = first n s r p e c f in
-      let m = missing-step s (enterPage s r p e) r p e (c .root) (q .0) n (c .range n (omega arith)) in
+      let m = entered-step s (enterPage s r p e) r p e (c .root) (q .0) n (c .range n (omega arith)) in
       (f, runs-out n (enterPage s r p e) r (suc p) (e + 1024) (q .1) .1 (omega (arith, q .0 .free, m))),
 )

@@ -12,7 +12,7 @@ use Rattle.walk.proofs.Calls.{root-in}
 use Rattle.map.specs.Enter.{ifZero, linked, hang, tabled, enterPage, enterPages, enterRun, CanEnter, RunFits}
 use Rattle.map.proofs.EnterPage.{lacks, slot-fits}
 use Rattle.map.proofs.Runs.{by-run, run-from, run-upto, tabled-length}
-use Rattle.map.proofs.EnterPages.{Ready, first, missing-first, missing-step}
+use Rattle.map.proofs.EnterPages.{Ready, first, missing-first, entered-step}
 
 -- i of n pages are entered, and s is the store so far
 pub record Going (s₀ : Store) (r p n e : ℕ) (s : Store) (i : ℕ) : Type 0 where
@@ -70,7 +70,7 @@ module _ (s₀ : Store) (r p n e : ℕ) (s : Store) (i : ℕ) (g : Going s₀ r 
         let b : e + 1024 * i + 1024 ≡ e + 1024 * (i + 1) = omega arith in
         let c : n - suc i ≡ n - (i + 1) = omega arith in
         let f = first (n - suc i) s r (p + i) (e + 1024 * i) more few in
-        let m = missing-step s (enterPage s r (p + i) (e + 1024 * i)) r (p + i) (e + 1024 * i) (more .root) (f .0) (n - suc i) (more .range (n - suc i) (omega arith)) in
+        let m = entered-step s (enterPage s r (p + i) (e + 1024 * i)) r (p + i) (e + 1024 * i) (more .root) (f .0) (n - suc i) (more .range (n - suc i) (omega arith)) in
         record {
           within = omega arith;
           ready =
@@ -99,7 +99,7 @@ onward s₀ r p n e (suc k) s i g h =
     (onward s₀ r p n e k s₁ (i + 1) (next s₀ r p n e s i g (omega arith)) (omega arith))))
 
 -- hanging tables does not look at frames
-hang-framed : (ws ms bs fs : List ℕ) (m : ℕ) → hang (storeOf ws ms bs fs) m ≡ storeOf (hang (storeOf ws ms [] []) m .words) (hang (storeOf ws ms [] []) m .tmarks) bs fs
+pub hang-framed : (ws ms bs fs : List ℕ) (m : ℕ) → hang (storeOf ws ms bs fs) m ≡ storeOf (hang (storeOf ws ms [] []) m .words) (hang (storeOf ws ms [] []) m .tmarks) bs fs
 unfolding hang
 hang-framed ws ms bs fs m = go (slotWord ws m)
   where
@@ -108,7 +108,7 @@ hang-framed ws ms bs fs m = go (slotWord ws m)
     go zero = refl
     go (suc x) = refl
 
-tabled-words : (ws ms bs fs : List ℕ) (r p : ℕ) → tabled (storeOf ws ms [] []) r p .words ≡ tabled (storeOf ws ms bs fs) r p .words
+pub tabled-words : (ws ms bs fs : List ℕ) (r p : ℕ) → tabled (storeOf ws ms [] []) r p .words ≡ tabled (storeOf ws ms bs fs) r p .words
 unfolding tabled
 tabled-words ws ms bs fs r p =
     let m : ℕ = slot (slotWord ws) r 0 (p / 512 / 512) in

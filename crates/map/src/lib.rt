@@ -5,6 +5,7 @@ mod judge;
 mod mapping;
 
 pub use create::uvmcreate;
+pub use enter::hang_tables;
 pub use enter::put_mark;
 pub use enter::put_slot;
 pub use mapping::map;
