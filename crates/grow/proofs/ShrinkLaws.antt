@@ -20,7 +20,7 @@ use Rattle.unmap.proofs.LeavePages.{leavable}
 use Rattle.unmap.proofs.GoneLaws.{pages-gone}
 use Rattle.grow.specs.Sizes.{pagesTo}
 use Rattle.grow.specs.Shrink.{lost, ShrinkReason, pages, ShrinkReady, ShrinkDone, Shrink}
-use Rattle.grow.proofs.ShrinkReasons.{clear}
+use Rattle.grow.proofs.ShrinkReasons.{asked, clear}
 
 module _ (s : Store) (root old new : ℕ) where
   pub refuse : (k : ℕ) → Judges (ShrinkReason s root old new) (ShrinkReady s root old new) k → (k ≡ 0 → ⊥) → Shrink s root old new (Refused k) s
@@ -34,7 +34,7 @@ module _ (s : Store) (root old new : ℕ) where
     pub may-leave : first < end → CanLeave s root first (end - first) true
     may-leave h =
         subst₂ (λ (x y : ℕ). CanLeave s root x (y - x) true) (sym ef) (sym ee)
-        (record { asked = record { sized = f .sized; formed = f .formed; is-root = f .is-root; pages = omega (arith, f .old-small) }; ready = f .pages })
+        (record { asked = asked s root old new (f .sizes) (pagesTo new) (pagesTo old) refl refl (omega (arith, ef, ee)) .0; ready = f .pages })
 
     pub done-all : (v : ℕ) (s′ : Store) → v ≡ cond (leb old new) old new → s′ ≡ leavePages s root first (end - first) true → Shrink s root old new (Done v) s′
     done-all v s′ ev e =

@@ -2,15 +2,15 @@
 use mathlib.Core.Path.{_≡_}
 use mathlib.Core.List.{List, []}
 use Prim.Native.Nat.{ℕ, zero, suc, _+_, _^_, _≤_, _<_}
-use lib.ListN.{length}
+use lib.ListN.{length, set}
 use Rattle.store.specs.Store.{Store, storeOf}
 use Rattle.store.specs.Count.{lowest, freeTables, freeFrames}
 use Rattle.store.specs.Walk.{slotWord, slot}
 use Rattle.walk.specs.Mapped.{Mapped}
 use Rattle.walk.specs.Missing.{missing}
-use Rattle.map.specs.Enter.{tabled, Hangable}
+use Rattle.map.specs.Enter.{putSlot, tabled, Hangable}
 use Rattle.unmap.specs.Leave.{Asked}
-use Rattle.grow.specs.Fill.{framed, filled}
+use Rattle.grow.specs.Fill.{poolEntry, framed, filled}
 
 -- Pages p .. p + n - 1 of root r.
 
@@ -50,3 +50,9 @@ pub record FrameFits (ws ms fs : List ℕ) (r p a : ℕ) : Type 0 where
 pub record FrameEntered (ws ms fs : List ℕ) (r p q f : ℕ) (ws′ ms′ fs′ : List ℕ) : Type 0 where
   pub frame : f ≡ lowest fs
   pub store : (bs b : List ℕ) → storeOf ws′ ms′ (framed bs f b) fs′ ≡ freshPage (storeOf ws ms bs fs) r p q b
+
+-- slot m and the lowest free frame f have got each other
+pub record FrameTaken (ws fs : List ℕ) (m q f : ℕ) (ws′ fs′ : List ℕ) : Type 0 where
+  pub frame : f ≡ lowest fs
+  pub words : ws′ ≡ putSlot ws m (poolEntry f q)
+  pub marks : fs′ ≡ set fs f m

@@ -3,24 +3,21 @@ use mathlib.Core.Path.{_≡_}
 use mathlib.Core.List.{List, _++_}
 use Prim.Native.Nat.{ℕ, _-_, _≤_, _<_}
 use lib.ListN.{length, replicate}
-use Rattle.store.specs.Store.{Store, Sized, mark}
-use Rattle.store.specs.WellFormed.{WellFormed}
+use Rattle.store.specs.Store.{Store}
 use Rattle.store.specs.Outcome.{Outcome}
 use Rattle.store.specs.declared.Answer.{Answer}
+use Rattle.well_formed.specs.Root.{RootReason, RootReady}
 use Rattle.grow.specs.Fresh.{FreshReason, FreshReady, freshPage}
 
+-- 1, 2, 3; 5: the source has 4,096 bytes or more; 14, 16 or 17 for page 0
 pub data InitReason (s : Store) (root : ℕ) (src : List ℕ) : ℕ → Type 0 where
-  sizes : (Sized s → ⊥) → InitReason s root src 1
-  unformed : (WellFormed s → ⊥) → InitReason s root src 2
-  no-root : (mark (s .tmarks) root ≡ 1 → ⊥) → InitReason s root src 3
+  at-root : {k : ℕ} → RootReason s root k → InitReason s root src k
   too-long : 4096 ≤ length src → InitReason s root src 5
   page : {k : ℕ} → FreshReason s root 0 1 k → InitReason s root src k
 
 -- what holds where none of them applies
 pub record InitReady (s : Store) (root : ℕ) (src : List ℕ) : Type 0 where
-  pub sized : Sized s
-  pub formed : WellFormed s
-  pub is-root : mark (s .tmarks) root ≡ 1
+  pub at-root : RootReady s root
   pub short : length src < 4096
   pub page : FreshReady s root 0 1
 

@@ -5,3 +5,4 @@ pub mod Fresh
 pub mod Init
 pub mod Grow
 pub mod Shrink
+pub mod Grown

@@ -1,33 +1,26 @@
 -- `uvm_dealloc`: why it is refused, what it answers, and the store afterwards.
 use mathlib.Core.Path.{_≡_}
 use mathlib.Core.Bool.{true, cond}
-use Prim.Native.Nat.{ℕ, _-_, _^_, _≤_}
+use Prim.Native.Nat.{ℕ, _-_}
 use lib.Dec.{leb}
-use Rattle.store.specs.Store.{Store, Sized, mark}
-use Rattle.store.specs.WellFormed.{WellFormed}
+use Rattle.store.specs.Store.{Store}
 use Rattle.store.specs.Outcome.{Outcome}
 use Rattle.store.specs.declared.Answer.{Answer}
 use Rattle.unmap.specs.Leave.{LeaveReason, LeaveReady, leavePages}
-use Rattle.grow.specs.Sizes.{pagesTo, TooLarge}
+use Rattle.grow.specs.Sizes.{pagesTo, SizeReason, SizeReady}
 
 -- the pages that old bytes take and new bytes do not; there are none where new is no less
 abbrev pub lost : ℕ → ℕ → ℕ
 lost old new = pagesTo old - pagesTo new
 
+-- 1, 2, 3, 6; 11 or 13 for one of these pages
 pub data ShrinkReason (s : Store) (root old new : ℕ) : ℕ → Type 0 where
-  sizes : (Sized s → ⊥) → ShrinkReason s root old new 1
-  unformed : (WellFormed s → ⊥) → ShrinkReason s root old new 2
-  no-root : (mark (s .tmarks) root ≡ 1 → ⊥) → ShrinkReason s root old new 3
-  too-large : TooLarge old new → ShrinkReason s root old new 6
+  sizes : {k : ℕ} → SizeReason s root old new k → ShrinkReason s root old new k
   pages : {k : ℕ} → LeaveReason s root (pagesTo new) (lost old new) true k → ShrinkReason s root old new k
 
 -- what holds where none of them applies
 pub record ShrinkReady (s : Store) (root old new : ℕ) : Type 0 where
-  pub sized : Sized s
-  pub formed : WellFormed s
-  pub is-root : mark (s .tmarks) root ≡ 1
-  pub old-small : old ≤ 2 ^ 38
-  pub new-small : new ≤ 2 ^ 38
+  pub sizes : SizeReady s root old new
   pub pages : LeaveReady s root (pagesTo new) (lost old new) true
 
 -- new >= old answers old; else these pages leave with freeing, and the answer is new

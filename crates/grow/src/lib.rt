@@ -1,5 +1,10 @@
 // Growing and shrinking what a root maps from page 0 on, after page_table.rs.
+mod fresh;
+mod growing;
+mod init;
 mod shrink;
 mod sizes;
 
+pub use growing::uvm_alloc;
+pub use init::uvm_init;
 pub use shrink::uvm_dealloc;

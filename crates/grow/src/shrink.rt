@@ -19,26 +19,25 @@ fn judge_shrink(
         (ShrinkReady (storeOf (now (words .entry)) (now (tmarks .entry)) (now (bytes .entry)) (now (fmarks .entry))) root old new)
         r ⌝ }
 {
-    let store = well_formed::judge_store(words, tmarks, bytes, fmarks);
-    if store != 0 {
-        return store;
-    }
-    let r = root as usize;
-    if store::mark_at(tmarks, r) != 1 {
-        return 3;
-    }
-    if old > sizes::MAXVA {
-        return 6;
-    }
-    if new > sizes::MAXVA {
-        return 6;
+    let no = sizes::judge_sizes(words, tmarks, bytes, fmarks, root, old, new);
+    if no != 0 {
+        return no;
     }
     let first = sizes::pages_to(new);
     let end = sizes::pages_to(old);
     if end <= first {
         return 0;
     }
-    unmap::judge_leave(words, tmarks, bytes, fmarks, r, first, end, true)
+    unmap::judge_leave(
+        words,
+        tmarks,
+        bytes,
+        fmarks,
+        root as usize,
+        first,
+        end,
+        true,
+    )
 }
 
 // The pages that old bytes take and new bytes do not leave the root, and their pool frames are given back.

@@ -20,10 +20,10 @@ returns c =
     refuse (storeOf (a .words .now) (a .tmarks .now) (a .bytes .now) (a .fmarks .now)) (a .root) (a .old) (a .new) _ (c .before .judge-shrink .ensures) (c .if1 .taken)
 
 pages-to-requires : tie.Need-pages-to-requires
-pages-to-requires c κs = c .before .judge-shrink .ensures .ready (c .if1 .left) .new-small
+pages-to-requires c κs = c .before .judge-shrink .ensures .ready (c .if1 .left) .sizes .new-small
 
 pages-to-requires-2 : tie.Need-pages-to-requires-2
-pages-to-requires-2 c κs = c .before .before .judge-shrink .ensures .ready (c .before .if1 .left) .old-small
+pages-to-requires-2 c κs = c .before .before .judge-shrink .ensures .ready (c .before .if1 .left) .sizes .old-small
 
 sub-leave-pages : tie.Need-sub-leave-pages
 sub-leave-pages c = search needs
