@@ -5,6 +5,8 @@ mod init;
 mod shrink;
 mod sizes;
 
+pub use fresh::enter_frame;
+pub use fresh::judge_fresh;
 pub use growing::uvm_alloc;
 pub use init::uvm_init;
 pub use shrink::uvm_dealloc;

@@ -4,7 +4,6 @@ use mathlib.Core.Logic.{_⊎_, ⊎-elim, by-cases}
 use Prim.Native.Nat.{ℕ, _<_}
 use native.Mathlib.Decide.{decLt}
 use native.Mathlib.Omega.{arith}
-use Rattle.store.specs.Store.{Store}
 use Rattle.store.specs.Outcome.{Smallest, NoReason, Outcome, Judges}
 use Rattle.store.specs.declared.Answer.{Answer}
 use Rattle.store.specs.declared.Answer.the-variants.{Refused, Done}
@@ -18,9 +17,9 @@ one-smallest R m n p q =
     by-cases (decLt m n) (λ l. absurd (q .least m l (p .applies)))
     (λ g. by-cases (decLt n m) (λ l. absurd (p .least n l (q .applies))) (λ h. omega arith))
 
--- where D holds of one value and one store at most
-module _ (R : ℕ → Type 0) (D : ℕ → Store → Type 0) (one : (v v′ : ℕ) (t t′ : Store) → D v t → D v′ t′ → (v ≡ v′) × (t ≡ t′)) (s : Store) where
-  pub one-outcome : (a a′ : Answer) (t t′ : Store) → Outcome R D s a t → Outcome R D s a′ t′ → (a ≡ a′) × (t ≡ t′)
+-- where D holds of one value and one store, or buffer, at most
+module _ {S : Type 0} (R : ℕ → Type 0) (D : ℕ → S → Type 0) (one : (v v′ : ℕ) (t t′ : S) → D v t → D v′ t′ → (v ≡ v′) × (t ≡ t′)) (s : S) where
+  pub one-outcome : (a a′ : Answer) (t t′ : S) → Outcome R D s a t → Outcome R D s a′ t′ → (a ≡ a′) × (t ≡ t′)
   one-outcome (Refused m) (Refused n) t t′ p q = (ap Refused (one-smallest R m n (p .0) (q .0)), p .1 ∙ sym (q .1))
   one-outcome (Refused m) (Done v) t t′ p q = absurd (q .0 m (p .0 .applies))
   one-outcome (Done v) (Refused n) t t′ p q = absurd (p .0 n (q .0 .applies))

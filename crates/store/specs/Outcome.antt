@@ -2,7 +2,6 @@
 use mathlib.Core.Path.{_≡_}
 use Prim.Native.Nat.{ℕ, _<_}
 use Rattle.address.specs.Answer.{Said, answered, refused}
-use Rattle.store.specs.Store.{Store}
 use Rattle.store.specs.declared.Answer.{Answer}
 use Rattle.store.specs.declared.Answer.the-variants.{Refused, Done}
 
@@ -19,8 +18,9 @@ pub record Smallest (R : ℕ → Type 0) (n : ℕ) : Type 0 where
 abbrev pub NoReason : (ℕ → Type 0) → Type 0
 NoReason R = (k : ℕ) → R k → ⊥
 
--- R are the reasons to refuse, D says which value and which store are the work done on s
-abbrev pub Outcome : (R : ℕ → Type 0) → (D : ℕ → Store → Type 0) → Store → Answer → Store → Type 0
+-- R are the reasons to refuse, D says which value and which store are the work done on s; for a call that lends the store for reading
+-- and writes to a buffer, s and s′ are the buffer
+abbrev pub Outcome : {S : Type 0} → (R : ℕ → Type 0) → (D : ℕ → S → Type 0) → S → Answer → S → Type 0
 Outcome R D s (Refused n) s′ = Smallest R n × (s′ ≡ s)
 Outcome R D s (Done v) s′ = NoReason R × D v s′
 
