@@ -1,5 +1,6 @@
 -- The promise of each call, said of its reply.
 use mathlib.Core.Bool.{Bool}
+use mathlib.Core.List.{List}
 use Prim.Native.Nat.{ℕ}
 use Rattle.store.specs.Store.{Store}
 use Rattle.store.specs.SetUp.{SetUp}
@@ -11,6 +12,8 @@ use Rattle.map.specs.Create.{Create}
 use Rattle.map.specs.Map.{Map}
 use Rattle.unmap.specs.Unmap.{Unmap}
 use Rattle.unmap.specs.Clear.{Clear}
+use Rattle.grow.specs.Init.{Init}
+use Rattle.grow.specs.Grow.{Grow}
 use Rattle.grow.specs.Shrink.{Shrink}
 use Rattle.interface.specs.Reply.{Replied}
 use Rattle.interface.specs.declared.Reply.{Reply}
@@ -38,6 +41,12 @@ UnmapReply s root va n freeing r s′ = Replied (λ (a : Answer). Unmap s root v
 
 abbrev pub ClearReply : Store → ℕ → ℕ → Reply → Store → Type 0
 ClearReply s root va r s′ = Replied (λ (a : Answer). Clear s root va a s′) r
+
+abbrev pub InitReply : Store → ℕ → List ℕ → Reply → Store → Type 0
+InitReply s root src r s′ = Replied (λ (a : Answer). Init s root src a s′) r
+
+abbrev pub GrowReply : Store → ℕ → ℕ → ℕ → Reply → Store → Type 0
+GrowReply s root old new r s′ = Replied (λ (a : Answer). Grow s root old new a s′) r
 
 abbrev pub ShrinkReply : Store → ℕ → ℕ → ℕ → Reply → Store → Type 0
 ShrinkReply s root old new r s′ = Replied (λ (a : Answer). Shrink s root old new a s′) r

@@ -4,7 +4,7 @@ use super::replies::answer_reply;
 use address::PhysicalAddress;
 use address::VirtualAddress;
 ghost use Rattle.store.specs.Store.{storeOf};
-ghost use Rattle.interface.specs.Calls.{SetUpReply, CheckReply, TranslateReply, SatpReply, CreateReply, MapReply, UnmapReply, ClearReply, ShrinkReply};
+ghost use Rattle.interface.specs.Calls.{SetUpReply, CheckReply, TranslateReply, SatpReply, CreateReply, MapReply, UnmapReply, ClearReply, InitReply, GrowReply, ShrinkReply};
 
 #[no_mangle]
 pub extern "C" fn ronakvesh_set_up(
@@ -143,6 +143,39 @@ pub extern "C" fn ronakvesh_uvm_clear(
         (storeOf (now (words .exit)) (now (tmarks .entry)) (now (bytes .entry)) (now (fmarks .entry))) ⌝ }
 {
     answer_reply(unmap::uvm_clear(words, tmarks, bytes, fmarks, root, VirtualAddress(va)))
+}
+
+#[no_mangle]
+pub extern "C" fn ronakvesh_uvm_init(
+    words: &mut [u64],
+    tmarks: &mut [u32],
+    bytes: &mut [u8],
+    fmarks: &mut [u32],
+    root: u64,
+    src: &[u8],
+) -> Reply
+    ensures { λ r. ⌜ InitReply
+        (storeOf (now (words .entry)) (now (tmarks .entry)) (now (bytes .entry)) (now (fmarks .entry))) root (now (src .entry)) r
+        (storeOf (now (words .exit)) (now (tmarks .exit)) (now (bytes .exit)) (now (fmarks .exit))) ⌝ }
+{
+    answer_reply(grow::uvm_init(words, tmarks, bytes, fmarks, root, src))
+}
+
+#[no_mangle]
+pub extern "C" fn ronakvesh_uvm_alloc(
+    words: &mut [u64],
+    tmarks: &mut [u32],
+    bytes: &mut [u8],
+    fmarks: &mut [u32],
+    root: u64,
+    old: u64,
+    new: u64,
+) -> Reply
+    ensures { λ r. ⌜ GrowReply
+        (storeOf (now (words .entry)) (now (tmarks .entry)) (now (bytes .entry)) (now (fmarks .entry))) root old new r
+        (storeOf (now (words .exit)) (now (tmarks .exit)) (now (bytes .exit)) (now (fmarks .exit))) ⌝ }
+{
+    answer_reply(grow::uvm_alloc(words, tmarks, bytes, fmarks, root, old, new))
 }
 
 #[no_mangle]
