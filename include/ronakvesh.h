@@ -5,6 +5,7 @@
  *   1  a store of the wrong sizes
  *   2  a store that is not well formed
  *   3  a root that is none
+ *   5  a source of 4096 bytes or more
  *   6  a result that leaves 64 bits, a level above 2, a page at or above 2^38, or a size above 2^38
  *   7  an address that is no multiple of 4096
  *   8  permissions above 1023
@@ -15,6 +16,7 @@
  *  12  a page that lacks U
  *  13  a page to be unmapped whose flags are exactly 1
  *  14  a page that is mapped already
+ *  16  more frames needed than free
  *  17  more tables needed than free
  * Where more than one applies, the smallest is given. */
 #ifndef RONAKVESH_H
@@ -170,6 +172,19 @@ ronakvesh_reply ronakvesh_uvm_unmap(uint64_t *words, size_t word_count, const ui
 ronakvesh_reply ronakvesh_uvm_clear(uint64_t *words, size_t word_count, const uint32_t *table_marks, size_t tables,
                                     const uint8_t *bytes, size_t byte_count, const uint32_t *frame_marks, size_t frames,
                                     uint64_t root, uint64_t va);
+
+/* Gives page 0 of a root the lowest free frame, with V, R, W, X and U: it holds the source, then zeros. The source does
+ * not overlap the store. The value is 0. 1, 2, 3, 5, 14, 16, 17, and then nothing is written. */
+ronakvesh_reply ronakvesh_uvm_init(uint64_t *words, size_t word_count, uint32_t *table_marks, size_t tables,
+                                   uint8_t *bytes, size_t byte_count, uint32_t *frame_marks, size_t frames,
+                                   uint64_t root, const uint8_t *source, size_t source_count);
+
+/* Grows what a root maps from page 0 on from old_size to new_size bytes: the pages past the old size each get the lowest
+ * free frame, zeroed, with V, R, W, X and U. The value is the new size, or the old one where the new one is less. 1, 2, 3,
+ * 6, 14, 16, 17, and then nothing is written. */
+ronakvesh_reply ronakvesh_uvm_alloc(uint64_t *words, size_t word_count, uint32_t *table_marks, size_t tables,
+                                    uint8_t *bytes, size_t byte_count, uint32_t *frame_marks, size_t frames,
+                                    uint64_t root, uint64_t old_size, uint64_t new_size);
 
 /* Shrinks what a root maps from page 0 on from old_size to new_size bytes: the pages past the new size leave, and their
  * pool frames are given back. The value is the new size, or the old one where the new one is no less. 1, 2, 3, 6, 11, 13,
