@@ -104,6 +104,34 @@ extern "C" {
         va: u64,
     ) -> Reply;
 
+    pub fn ronakvesh_uvm_init(
+        words: *mut u64,
+        words_length: usize,
+        tmarks: *mut u32,
+        tmarks_length: usize,
+        bytes: *mut u8,
+        bytes_length: usize,
+        fmarks: *mut u32,
+        fmarks_length: usize,
+        root: u64,
+        src: *const u8,
+        src_length: usize,
+    ) -> Reply;
+
+    pub fn ronakvesh_uvm_alloc(
+        words: *mut u64,
+        words_length: usize,
+        tmarks: *mut u32,
+        tmarks_length: usize,
+        bytes: *mut u8,
+        bytes_length: usize,
+        fmarks: *mut u32,
+        fmarks_length: usize,
+        root: u64,
+        old: u64,
+        new: u64,
+    ) -> Reply;
+
     pub fn ronakvesh_uvm_dealloc(
         words: *mut u64,
         words_length: usize,

@@ -22,7 +22,7 @@ pub struct Store<'a> {
     pub fmarks: &'a mut [u32],
 }
 
-// The pointers and lengths below are those of four slices that are borrowed for the call. So they are aligned, not null
+// The pointers and lengths below are those of slices that are borrowed for the call. So they are aligned, not null
 // and apart, and what is handed over as writable is borrowed as such: that is all that the archive asks of a caller.
 impl Store<'_> {
     /// Writes zeros to all four slices: every table and every frame is free, and the store is well formed.
@@ -233,6 +233,84 @@ impl Store<'_> {
             )
         };
         reply.result().map(|_| ())
+    }
+
+    /// Gives page 0 of a root the lowest free frame, with the flags 31 (V, R, W, X and U): it holds the source, then zeros.
+    ///
+    /// Refuses with [`Sizes`](Refusal::Sizes), [`NotWellFormed`](Refusal::NotWellFormed), [`NoRoot`](Refusal::NoRoot),
+    /// [`LongSource`](Refusal::LongSource), [`MappedAlready`](Refusal::MappedAlready),
+    /// [`TooFewFrames`](Refusal::TooFewFrames), [`TooFewTables`](Refusal::TooFewTables).
+    ///
+    /// ```
+    /// # use ronakvesh::{PhysicalAddress, Refusal, Store, VirtualAddress};
+    /// # let (mut words, mut tmarks, mut bytes, mut fmarks) = ([0; 512 * 3], [0; 3], [0; 4096], [0; 1]);
+    /// # let mut store = Store { words: &mut words, tmarks: &mut tmarks, bytes: &mut bytes, fmarks: &mut fmarks };
+    /// let root = store.uvmcreate()?;
+    /// assert_eq!(store.uvm_init(root, &[7; 4096]), Err(Refusal::LongSource));
+    /// assert_eq!(store.uvm_init(root, &[7; 4095]), Ok(()));
+    /// assert_eq!(store.bytes[4094..4096], [7, 0]);
+    /// assert_eq!(store.pgt_translate(root, VirtualAddress(0)), Ok(PhysicalAddress(0x1_1000_0000)));
+    /// assert_eq!(store.uvm_init(root, &[]), Err(Refusal::MappedAlready));
+    /// # Ok::<(), ronakvesh::Refusal>(())
+    /// ```
+    pub fn uvm_init(&mut self, root: u64, src: &[u8]) -> Result<(), Refusal> {
+        let reply = unsafe {
+            archive::ronakvesh_uvm_init(
+                self.words.as_mut_ptr(),
+                self.words.len(),
+                self.tmarks.as_mut_ptr(),
+                self.tmarks.len(),
+                self.bytes.as_mut_ptr(),
+                self.bytes.len(),
+                self.fmarks.as_mut_ptr(),
+                self.fmarks.len(),
+                root,
+                src.as_ptr(),
+                src.len(),
+            )
+        };
+        reply.result().map(|_| ())
+    }
+
+    /// Grows what a root maps from page 0 on from `old` to `new` bytes: the pages that `new` bytes take and `old` bytes do
+    /// not each get the lowest free frame, zeroed, with the flags 31 (V, R, W, X and U), upward. Answers `new`, or `old`
+    /// where `new` is less, and then no page is added.
+    ///
+    /// Refuses with [`Sizes`](Refusal::Sizes), [`NotWellFormed`](Refusal::NotWellFormed), [`NoRoot`](Refusal::NoRoot),
+    /// [`TooHigh`](Refusal::TooHigh), [`MappedAlready`](Refusal::MappedAlready),
+    /// [`TooFewFrames`](Refusal::TooFewFrames), [`TooFewTables`](Refusal::TooFewTables).
+    ///
+    /// ```
+    /// # use ronakvesh::{PhysicalAddress, Refusal, Store, VirtualAddress};
+    /// # let (mut words, mut tmarks, mut bytes, mut fmarks) = ([0; 512 * 3], [0; 3], [0; 4096 * 2], [0; 2]);
+    /// # let mut store = Store { words: &mut words, tmarks: &mut tmarks, bytes: &mut bytes, fmarks: &mut fmarks };
+    /// // a store of two frames
+    /// let root = store.uvmcreate()?;
+    /// assert_eq!(store.uvm_alloc(root, 0, 8193), Err(Refusal::TooFewFrames));
+    /// assert_eq!(store.uvm_alloc(root, 1, 4096), Ok(4096));
+    /// assert_eq!(store.pgt_translate(root, VirtualAddress(0)), Err(Refusal::NotMapped));
+    /// assert_eq!(store.uvm_alloc(root, 0, 4097), Ok(4097));
+    /// assert_eq!(store.pgt_translate(root, VirtualAddress(4096)), Ok(PhysicalAddress(0x1_1000_1000)));
+    /// assert_eq!(store.uvm_alloc(root, 4097, 1), Ok(4097));
+    /// # Ok::<(), ronakvesh::Refusal>(())
+    /// ```
+    pub fn uvm_alloc(&mut self, root: u64, old: u64, new: u64) -> Result<u64, Refusal> {
+        let reply = unsafe {
+            archive::ronakvesh_uvm_alloc(
+                self.words.as_mut_ptr(),
+                self.words.len(),
+                self.tmarks.as_mut_ptr(),
+                self.tmarks.len(),
+                self.bytes.as_mut_ptr(),
+                self.bytes.len(),
+                self.fmarks.as_mut_ptr(),
+                self.fmarks.len(),
+                root,
+                old,
+                new,
+            )
+        };
+        reply.result()
     }
 
     /// Shrinks what a root maps from page 0 on from `old` to `new` bytes: the pages that `old` bytes take and `new` bytes

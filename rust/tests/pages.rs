@@ -1,7 +1,9 @@
 //! What `uvm_unmap`, `uvm_clear` and `uvm_dealloc` answer and write, and that they write nothing else.
 
+mod made;
 mod memory;
 
+use made::makes;
 use memory::{refuses, Memory};
 use ronakvesh::{PhysicalAddress, Refusal, Store, VirtualAddress};
 
@@ -14,16 +16,6 @@ fn mapped(va: u64, pa: u64, pages: u64) -> Memory {
     let taken = memory.store().map(0, VirtualAddress(va), PhysicalAddress(pa), 4096 * pages, 1023);
     assert!(taken.is_ok());
     memory
-}
-
-/// Holds a call to an answer, and the memory to what `change` makes of it, which is well formed.
-#[track_caller]
-fn makes(memory: &mut Memory, call: impl FnOnce(&mut Store) -> Result<(), Refusal>, change: impl FnOnce(&mut Memory)) {
-    let mut after = memory.clone();
-    change(&mut after);
-    assert_eq!(call(&mut memory.store()), Ok(()));
-    assert!(*memory == after, "the store is another");
-    assert_eq!(memory.store().check(), Ok(true));
 }
 
 fn unmap(va: u64, pages: u64, freeing: bool) -> impl Fn(&mut Store) -> Result<(), Refusal> {

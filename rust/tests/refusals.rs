@@ -43,6 +43,8 @@ fn all_refuse(memory: &mut Memory, refusal: Refusal) {
     refuses(memory, refusal, |store| unmap(store, 0, 0, 1));
     refuses(memory, refusal, |store| free(store, 0, 1));
     refuses(memory, refusal, |store| clear(store, 0, 0));
+    refuses(memory, refusal, |store| store.uvm_init(0, &[]));
+    refuses(memory, refusal, |store| store.uvm_alloc(0, 0, 0));
     refuses(memory, refusal, |store| store.uvm_dealloc(0, 0, 0));
     refuses(memory, refusal, |store| find(store, 0, 0));
     refuses(memory, refusal, |store| store.as_satp(0));
@@ -90,13 +92,26 @@ fn no_root() {
         refuses(&mut memory, Refusal::NoRoot, |store| map(store, root, 0, FRAME, 4096));
         refuses(&mut memory, Refusal::NoRoot, |store| unmap(store, root, 0, 0));
         refuses(&mut memory, Refusal::NoRoot, |store| clear(store, root, 0));
+        refuses(&mut memory, Refusal::NoRoot, |store| store.uvm_init(root, &[]));
+        refuses(&mut memory, Refusal::NoRoot, |store| store.uvm_alloc(root, 0, 0));
         refuses(&mut memory, Refusal::NoRoot, |store| store.uvm_dealloc(root, 0, 0));
         refuses(&mut memory, Refusal::NoRoot, |store| find(store, root, 0));
         refuses(&mut memory, Refusal::NoRoot, |store| store.as_satp(root));
     }
     assert_eq!(memory.store().as_satp(0), Ok(0x8000_0000_0010_0000));
     assert_eq!(unmap(&mut memory.store(), 0, 0, 0), Ok(()));
+    assert_eq!(memory.store().uvm_alloc(0, 0, 0), Ok(0));
     assert_eq!(memory.store().uvm_dealloc(0, 0, 0), Ok(0));
+    assert_eq!(memory.store().uvm_init(0, &[]), Ok(()));
+}
+
+#[test]
+fn long_source() {
+    let mut memory = Memory::with_root(8);
+    for length in [4096, 4097, 8192] {
+        refuses(&mut memory, Refusal::LongSource, |store| store.uvm_init(0, &vec![1; length]));
+    }
+    assert_eq!(memory.store().uvm_init(0, &[1; 4095]), Ok(()));
 }
 
 #[test]
@@ -133,8 +148,11 @@ fn too_large() {
         for other in [0, END - 4096, END, END + 1, u64::MAX] {
             refuses(&mut memory, Refusal::TooHigh, |store| store.uvm_dealloc(0, large, other));
             refuses(&mut memory, Refusal::TooHigh, |store| store.uvm_dealloc(0, other, large));
+            refuses(&mut memory, Refusal::TooHigh, |store| store.uvm_alloc(0, large, other));
+            refuses(&mut memory, Refusal::TooHigh, |store| store.uvm_alloc(0, other, large));
         }
     }
+    assert_eq!(memory.store().uvm_alloc(0, END, END), Ok(END));
     assert_eq!(memory.store().uvm_dealloc(0, END, END), Ok(END));
     assert_eq!(memory.store().uvm_dealloc(0, END, END - 4096), Ok(END - 4096));
 }
@@ -282,6 +300,45 @@ fn mapped_already() {
 }
 
 #[test]
+fn mapped_already_for_a_fresh_frame() {
+    let mut memory = Memory::with_root(8);
+    assert_eq!(map(&mut memory.store(), 0, 4096, FRAME, 4096), Ok(2));
+    for (old, new) in [(0, 4097), (4096, 4097), (1, 8192), (0, END)] {
+        refuses(&mut memory, Refusal::MappedAlready, |store| store.uvm_alloc(0, old, new));
+    }
+    assert_eq!(memory.store().uvm_alloc(0, 4097, 8192), Ok(8192));
+    assert_eq!(memory.store().uvm_init(0, &[]), Ok(()));
+    refuses(&mut memory, Refusal::MappedAlready, |store| store.uvm_init(0, &[]));
+    refuses(&mut memory, Refusal::MappedAlready, |store| store.uvm_alloc(0, 0, 1));
+}
+
+#[test]
+fn too_few_frames() {
+    let mut memory = Memory::with_root(8);
+    for (old, new) in [(0, 9 * 4096), (0, 8 * 4096 + 1), (1 << 21, 1 << 22), (0, END)] {
+        refuses(&mut memory, Refusal::TooFewFrames, |store| store.uvm_alloc(0, old, new));
+    }
+    assert_eq!(memory.store().uvm_alloc(0, 4096, 9 * 4096), Ok(9 * 4096));
+    refuses(&mut memory, Refusal::TooFewFrames, |store| store.uvm_alloc(0, 9 * 4096, 9 * 4096 + 1));
+    refuses(&mut memory, Refusal::TooFewFrames, |store| store.uvm_init(0, &[]));
+    assert_eq!(memory.store().uvm_dealloc(0, 9 * 4096, 8 * 4096), Ok(8 * 4096));
+    assert_eq!(memory.store().uvm_init(0, &[]), Ok(()));
+}
+
+#[test]
+fn too_few_tables_for_fresh_frames() {
+    for tables in [1, 2] {
+        let mut memory = Memory::with_root(tables);
+        refuses(&mut memory, Refusal::TooFewTables, |store| store.uvm_init(0, &[]));
+        refuses(&mut memory, Refusal::TooFewTables, |store| store.uvm_alloc(0, 0, 1));
+    }
+    let mut memory = Memory::with_root(4);
+    refuses(&mut memory, Refusal::TooFewTables, |store| store.uvm_alloc(0, (1 << 30) - 4096, (1 << 30) + 1));
+    assert_eq!(memory.store().uvm_alloc(0, (1 << 21) - 4096, (1 << 21) + 1), Ok((1 << 21) + 1));
+    refuses(&mut memory, Refusal::TooFewTables, |store| store.uvm_alloc(0, 1 << 22, (1 << 22) + 1));
+}
+
+#[test]
 fn too_few_tables() {
     let mut memory = Memory::with_root(2);
     refuses(&mut memory, Refusal::TooFewTables, |store| map(store, 0, 4096, FRAME, 4096));
@@ -319,4 +376,21 @@ fn the_smallest_is_given_for_pages() {
     refuses(&mut memory, Refusal::NotMapped, |store| store.uvm_dealloc(0, 8193, 0));
     refuses(&mut memory, Refusal::OnlyValid, |store| store.uvm_dealloc(0, 8192, 0));
     assert_eq!(free(&mut memory.store(), 4096, 1), Ok(()));
+}
+
+#[test]
+fn the_smallest_is_given_for_fresh_frames() {
+    let mut memory = Memory::with_root(3);
+    let long = [1; 4096];
+    refuses(&mut memory, Refusal::NoRoot, |store| store.uvm_init(1, &long));
+    refuses(&mut memory, Refusal::NoRoot, |store| store.uvm_alloc(1, END + 1, 0));
+    refuses(&mut memory, Refusal::TooHigh, |store| store.uvm_alloc(0, 0, END + 1));
+    refuses(&mut memory, Refusal::TooFewFrames, |store| store.uvm_alloc(0, 0, END));
+    assert_eq!(memory.store().uvm_alloc(0, 0, 8 * 4096), Ok(8 * 4096));
+    refuses(&mut memory, Refusal::LongSource, |store| store.uvm_init(0, &long));
+    refuses(&mut memory, Refusal::MappedAlready, |store| store.uvm_init(0, &[]));
+    refuses(&mut memory, Refusal::MappedAlready, |store| store.uvm_alloc(0, 0, END));
+    refuses(&mut memory, Refusal::TooFewFrames, |store| store.uvm_alloc(0, 1 << 21, 1 << 22));
+    assert_eq!(memory.store().uvm_dealloc(0, 8 * 4096, 7 * 4096), Ok(7 * 4096));
+    refuses(&mut memory, Refusal::TooFewTables, |store| store.uvm_alloc(0, 1 << 21, (1 << 21) + 1));
 }
