@@ -10,6 +10,9 @@
 
 enum { MOST = 6, FRAMES = 4 };
 
+/* The first word of table 2, which is that of page 0 where one block is mapped. */
+enum { WORD = 512 * 2 };
+
 static uint64_t words[512 * MOST], words_before[512 * MOST];
 static uint32_t table_marks[MOST], table_marks_before[MOST], frame_marks[FRAMES], frame_marks_before[FRAMES];
 static uint8_t bytes[4096 * FRAMES], bytes_before[4096 * FRAMES];
@@ -66,6 +69,17 @@ static void find(const char *label, uint64_t va) {
 
 static void check(void) {
     reply("well formed:", ronakvesh_check(STORE));
+}
+
+/* Prints the words of pages 0 to 3 and the frame marks. */
+static inline void show(void) {
+    printf("words");
+    for (size_t i = 0; i < 4; i++)
+        printf(" %" PRIx64, words[WORD + i]);
+    printf(", frame marks");
+    for (size_t i = 0; i < FRAMES; i++)
+        printf(" %" PRIu32, frame_marks[i]);
+    printf("\n");
 }
 
 #endif

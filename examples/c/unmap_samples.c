@@ -1,9 +1,6 @@
 /* Pages are mapped, unmapped and mapped again, a pool frame is given back, and U is taken from a page. */
 #include "sample_store.h"
 
-/* The first word of table 2, which is that of page 0 where one block is mapped. */
-enum { WORD = 512 * 2 };
-
 static void unmap(const char *label, uint64_t va, uint64_t pages, bool freeing) {
     keep();
     outcome(label, ronakvesh_uvm_unmap(STORE, 0, va, pages, freeing));
@@ -12,17 +9,6 @@ static void unmap(const char *label, uint64_t va, uint64_t pages, bool freeing) 
 static void clear(const char *label, uint64_t va) {
     keep();
     outcome(label, ronakvesh_uvm_clear(STORE, 0, va));
-}
-
-/* Prints the words of pages 0 to 3 and the frame marks. */
-static void show(void) {
-    printf("words");
-    for (size_t i = 0; i < 4; i++)
-        printf(" %" PRIx64, words[WORD + i]);
-    printf(", frame marks");
-    for (size_t i = 0; i < FRAMES; i++)
-        printf(" %" PRIu32, frame_marks[i]);
-    printf("\n");
 }
 
 /* Pages leave root 0, and come again without taking a table. */
