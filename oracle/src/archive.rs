@@ -150,5 +150,7 @@ calls! {
     map = ronakvesh_map(root, va, pa, size, permissions);
     uvm_unmap = ronakvesh_uvm_unmap(root, va, pages, freeing: bool);
     uvm_clear = ronakvesh_uvm_clear(root, va);
+    uvm_init = ronakvesh_uvm_init(root; src);
+    uvm_alloc = ronakvesh_uvm_alloc(root, old, new);
     uvm_dealloc = ronakvesh_uvm_dealloc(root, old, new);
 }

@@ -5,7 +5,7 @@ use crate::answer::{Answer, Build};
 use crate::archive::{self, Numbers, Reply, Slices, NO_NUMBERS};
 use crate::call::inputs::{self, Inputs};
 use crate::call::listed;
-use crate::call::{map, original, uvm_clear, uvm_dealloc, uvm_unmap, uvmcreate};
+use crate::call::{map, original, uvm_alloc, uvm_clear, uvm_dealloc, uvm_init, uvm_unmap, uvmcreate};
 use crate::listed::Listed;
 use crate::model::calls;
 use crate::model::numbers::ROOT;
@@ -64,7 +64,7 @@ impl Call {
 }
 
 /// Every call that is compared.
-pub static CALLS: [Call; 7] = [
+pub static CALLS: [Call; 9] = [
     Call {
         name: "pgt_translate",
         numbers: 2,
@@ -190,6 +190,42 @@ pub static CALLS: [Call; 7] = [
         differences: &uvm_dealloc::listed::DIFFERENCES,
         when_checked: &[uvm_dealloc::listed::EARLY],
         listed: uvm_dealloc::listed::shrinking,
+    },
+    Call {
+        name: "uvm_init",
+        numbers: 2,
+        times: 1,
+        apart: true,
+        writes: Writes::Frames,
+        any: uvm_init::any,
+        vary: None,
+        buffer: Some(uvm_init::source),
+        ours: archive::uvm_init,
+        model: |store, [root, ..], src| calls::uvm_init(store, root, src),
+        may_run: is_root,
+        rust: original::uvm_init,
+        refusals: &[1, 2, 3, 5, 14, 16, 17],
+        differences: &uvm_init::DIFFERENCES,
+        when_checked: &[],
+        listed: uvm_init::loading,
+    },
+    Call {
+        name: "uvm_alloc",
+        numbers: 3,
+        times: 1,
+        apart: true,
+        writes: Writes::Frames,
+        any: uvm_alloc::inputs::any,
+        vary: None,
+        buffer: None,
+        ours: archive::uvm_alloc,
+        model: |store, [root, old, new, ..], _| calls::uvm_alloc(store, root, old, new),
+        may_run: is_root,
+        rust: original::uvm_alloc,
+        refusals: &[1, 2, 3, 6, 14, 16, 17],
+        differences: &uvm_alloc::listed::DIFFERENCES,
+        when_checked: &[uvm_alloc::listed::EARLY],
+        listed: uvm_alloc::listed::growing,
     },
 ];
 

@@ -9,6 +9,7 @@ mod set_up;
 mod uvm_alloc;
 mod uvm_clear;
 mod uvm_dealloc;
+mod uvm_init;
 mod uvm_unmap;
 mod uvmcreate;
 
@@ -20,5 +21,6 @@ pub use set_up::set_up;
 pub use uvm_alloc::uvm_alloc;
 pub use uvm_clear::uvm_clear;
 pub use uvm_dealloc::uvm_dealloc;
+pub use uvm_init::uvm_init;
 pub use uvm_unmap::uvm_unmap;
 pub use uvmcreate::uvmcreate;
