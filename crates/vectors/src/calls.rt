@@ -1,4 +1,5 @@
 // The call of a row, made here.
+use super::lent;
 use super::replies::Reply;
 use super::replies::answer_reply;
 use super::replies::entry_reply;
@@ -39,7 +40,52 @@ fn mapped(
     map::map(words, tmarks, bytes, fmarks, root, va, pa, size, perm)
 }
 
-// What the call on the store says, and writes; where it is none of the others, a fresh store is set up.
+// What uvm_init says at a row, and writes.
+fn loaded(
+    row: usize,
+    words: &mut [u64],
+    tmarks: &mut [u32],
+    bytes: &mut [u8],
+    fmarks: &mut [u32],
+) -> Answer {
+    let root = rows::argument(row, 0);
+    let length = rows::argument(row, 1) as usize;
+    let mut source = [0u8; 8192];
+    lent::fill(&mut source);
+    let src = lent::first(&source, length);
+    grow::uvm_init(words, tmarks, bytes, fmarks, root, src)
+}
+
+// What the call that takes pages out or brings fresh frames says, and writes; where it is none of the others, it is uvm_alloc.
+fn on_pages(
+    row: usize,
+    words: &mut [u64],
+    tmarks: &mut [u32],
+    bytes: &mut [u8],
+    fmarks: &mut [u32],
+) -> Answer {
+    let call = rows::call(row);
+    let root = rows::argument(row, 0);
+    let first = rows::argument(row, 1);
+    let second = rows::argument(row, 2);
+    if call == 8 {
+        let freeing = rows::argument(row, 3) != 0;
+        let va = VirtualAddress(first);
+        return unmap::uvm_unmap(words, tmarks, bytes, fmarks, root, va, second, freeing);
+    }
+    if call == 9 {
+        return unmap::uvm_clear(words, tmarks, bytes, fmarks, root, VirtualAddress(first));
+    }
+    if call == 10 {
+        return grow::uvm_dealloc(words, tmarks, bytes, fmarks, root, first, second);
+    }
+    if call == 11 {
+        return loaded(row, words, tmarks, bytes, fmarks);
+    }
+    grow::uvm_alloc(words, tmarks, bytes, fmarks, root, first, second)
+}
+
+// What the call on the store says, and writes; 0 is a fresh store.
 fn on_store(
     row: usize,
     words: &mut [u64],
@@ -49,6 +95,9 @@ fn on_store(
 ) -> Answer {
     let call = rows::call(row);
     let root = rows::argument(row, 0);
+    if call == 0 {
+        return store::set_up(words, tmarks, bytes, fmarks);
+    }
     if call == 4 {
         return map::uvmcreate(words, tmarks, bytes, fmarks);
     }
@@ -62,7 +111,7 @@ fn on_store(
     if call == 7 {
         return walk::as_satp(words, tmarks, bytes, fmarks, root);
     }
-    store::set_up(words, tmarks, bytes, fmarks)
+    on_pages(row, words, tmarks, bytes, fmarks)
 }
 
 // What the call of a row says, and writes.

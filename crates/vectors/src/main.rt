@@ -1,6 +1,7 @@
 // Replays the calls of list.rt, whose answers are the Rust's, and prints how many come out the same here.
 mod calls;
 mod digest;
+mod lent;
 mod list;
 mod replay;
 mod replies;

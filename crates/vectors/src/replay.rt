@@ -30,7 +30,7 @@ fn kind(
     fmarks: &mut [u32],
 ) -> u64 {
     let reply = calls::made(row, words, tmarks, bytes, fmarks);
-    let after = digest::digest(words);
+    let after = digest::digest(words, bytes);
     if !rows::agrees(row, reply, after) {
         say::wrong(row, reply, after);
         return WRONG;

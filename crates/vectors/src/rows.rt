@@ -63,12 +63,12 @@ fn wanted_value(row: usize) -> u64 {
     number(row, 7)
 }
 
-// The digest of the table words afterwards.
+// The digest of the store afterwards.
 fn wanted_digest(row: usize) -> u64 {
     number(row, 9)
 }
 
-// Whether a reply, and the digest of the table words afterwards, are as the row says.
+// Whether a reply, and the digest of the store afterwards, are as the row says.
 pub fn agrees(row: usize, reply: Reply, digest: u64) -> bool {
     if reply.number != wanted_number(row) {
         return false;

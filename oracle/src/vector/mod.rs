@@ -2,5 +2,6 @@
 
 pub mod chosen;
 pub mod digest;
+pub mod lent;
 pub mod record;
 pub mod source;

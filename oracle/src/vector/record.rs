@@ -12,9 +12,10 @@ use crate::model::Store;
 use crate::rounding;
 use crate::vector::chosen::{Chosen, FRAMES, TABLES};
 use crate::vector::digest::digest;
+use crate::vector::lent;
 
-/// A call with what the Rust answers, the refusal where it is listed to answer otherwise, and the digest of the table words
-/// afterwards: those that the Rust leaves, or where it is listed to answer otherwise those before.
+/// A call with what the Rust answers, the refusal where it is listed to answer otherwise, and the digest of the store
+/// afterwards: of what the Rust leaves, or where it is listed to answer otherwise of what was before.
 pub struct Row {
     pub made: Chosen,
     pub rust: Answer,
@@ -56,7 +57,7 @@ impl Recorder {
             Some(Listed { ours: Answer::Refused(number, 0), rust: foreseen, .. }) if foreseen == rust => Some(number),
             Some(Listed { name, .. }) => return Err(format!("{made}: the Rust answers {rust}, not as listed: {name}")),
         };
-        Ok(Row { made, rust, listed, digest: digest(&self.store.words) })
+        Ok(Row { made, rust, listed, digest: digest(&self.store) })
     }
 
     /// Has the Rust make a call. Where nothing is listed it must answer and write what the model does.
@@ -66,12 +67,13 @@ impl Recorder {
         original::hold_bytes(&self.store);
         original::hold_words(&self.store);
         let mut after = self.store.clone();
-        let model = (call.model)(&mut after, numbers, &mut []);
-        let rust = (call.rust)(numbers, &mut []);
+        let mut lent = call.buffer.map_or(Vec::new(), |_| lent::bytes(numbers[1]));
+        let model = (call.model)(&mut after, numbers, &mut lent);
+        let rust = (call.rust)(numbers, &mut lent);
         let listed = (call.listed)(Build::Wrapping, &self.store, numbers, model);
         let answer = model.map_or_else(|number| Answer::Refused(number, 0), Answer::Done);
         if listed.is_none() && (rust != answer || !original::holds(&after)) {
-            return Err(format!("{name}: the Rust answers {rust}, the model {answer}, or other words are left"));
+            return Err(format!("{name}: the Rust answers {rust}, the model {answer}, or other pages are left"));
         }
         self.store = after;
         Ok((rust, listed))

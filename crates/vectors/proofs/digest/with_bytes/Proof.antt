@@ -1,25 +1,25 @@
--- `vectors::digest::digest` ends. Assumes nothing.
+-- `vectors::digest::with_bytes` ends. Assumes nothing.
 use Prim.Native.Nat.{_-_, _≤_}
 use native.Mathlib.Omega.{arith}
 use borrow.Author.Needs.{needs}
 use lib.ListN.{length}
-use Rattle.vectors.proofs.digest.digest.Statement.{statement}
-use Rattle.vectors.proofs.digest.digest.Tie as tie
+use Rattle.vectors.proofs.digest.with_bytes.Statement.{statement}
+use Rattle.vectors.proofs.digest.with_bytes.Tie as tie
 
 abbrev Inv-loop : tie.InvT-loop
-Inv-loop words sum₀ i₀ sum i = i ≤ length words
+Inv-loop digest bytes sum₀ i₀ sum i = i ≤ length bytes
 
 abbrev μ-loop : tie.MeasureT-loop
-μ-loop words sum₀ i₀ sum i = length words - i
+μ-loop digest bytes sum₀ i₀ sum i = length bytes - i
 
 loop-holds : tie.Need-loop-holds Inv-loop μ-loop
 loop-holds c = search needs
 
-mul-mixed : tie.Need-mul-mixed Inv-loop μ-loop
-mul-mixed c = search needs
+shared-slice-read-wide : tie.Need-shared-slice-read-wide Inv-loop μ-loop
+shared-slice-read-wide c = search needs
 
-shared-slice-read-mixed : tie.Need-shared-slice-read-mixed Inv-loop μ-loop
-shared-slice-read-mixed c = search needs
+wide-requires : tie.Need-wide-requires Inv-loop μ-loop
+wide-requires c κs = search needs
 
 mixed-requires : tie.Need-mixed-requires Inv-loop μ-loop
 mixed-requires c κs = search needs
@@ -36,15 +36,15 @@ loop-again c = search needs
 returns : tie.Need-returns Inv-loop μ-loop
 returns c = search needs
 
-pub digest-spec : {M : Type 1} → statement M
-digest-spec =
+pub with-bytes-spec : {M : Type 1} → statement M
+with-bytes-spec =
     tie.close
     (tie.spec
     Inv-loop
     μ-loop
     loop-holds
-    mul-mixed
-    shared-slice-read-mixed
+    shared-slice-read-wide
+    wide-requires
     mixed-requires
     add-i
     loop-less

@@ -1,0 +1,18 @@
+// The source that uvm_init is lent.
+
+// Byte i is i modulo 251, and 1.
+pub fn fill(source: &mut [u8]) {
+    let mut i = 0;
+    while i < source.len() {
+        source[i] = (i % 251 + 1) as u8;
+        i += 1;
+    }
+}
+
+// The first bytes of a source, or all where there are no more.
+pub fn first(source: &[u8], length: usize) -> &[u8] {
+    if length < source.len() {
+        return &source[..length];
+    }
+    source
+}
