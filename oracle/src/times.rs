@@ -1,6 +1,6 @@
-//! Times the proved `map` and `pgt_translate` against the Rust's own, on the same memory, in turns.
-//! First both are compared on each case that is timed.
-//! usage: times
+//! Times proved calls against the Rust's own, on the same memory, in turns: `map` and `pgt_translate`, or `uvm_alloc` and
+//! `uvm_dealloc`. First both are compared on each case that is timed.
+//! usage: times map|grow
 
 #[allow(dead_code)] // declares the helpers too
 mod archive;
@@ -14,16 +14,25 @@ use time::{cases, held, table};
 const VISITS: usize = 800;
 
 fn main() -> ExitCode {
+    let arguments: Vec<String> = std::env::args().skip(1).collect();
+    let cases = match arguments.iter().map(String::as_str).collect::<Vec<_>>()[..] {
+        ["map"] => cases::of_map(),
+        ["grow"] => cases::of_grow(),
+        _ => {
+            eprintln!("usage: times map|grow");
+            return ExitCode::from(2);
+        }
+    };
     held::open();
-    let mut visited: Vec<_> = cases::all().map(|case| (case, Vec::new())).collect();
+    let mut visited: Vec<_> = cases.into_iter().map(|case| (case, Vec::new())).collect();
     for (case, _) in &visited {
         if let Err(difference) = case.compare() {
             eprintln!("times: {case}: {difference}");
             return ExitCode::FAILURE;
         }
     }
-    for _ in 0..VISITS {
-        for (case, visits) in &mut visited {
+    for n in 0..VISITS {
+        for (case, visits) in visited.iter_mut().filter(|(case, _)| n % case.one_of() == 0) {
             visits.push(Visit::new(case));
         }
     }

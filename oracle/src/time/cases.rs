@@ -1,4 +1,5 @@
-//! What is timed: ranges that are mapped in a store with one root, and a page of it that is translated.
+//! What is timed in a store with one root: ranges that are mapped, a page of it that is translated, and sizes from and to 0
+//! that it grows and shrinks by.
 
 use super::held::Held;
 use super::{ours, rust};
@@ -27,6 +28,10 @@ pub enum Call {
     Map,
     /// Translates the first of the pages, which are mapped.
     Translate,
+    /// Grows a store that has no pages.
+    Grow,
+    /// Shrinks it to none.
+    Shrink,
 }
 
 /// A call in a store of this many tables and frames, with this many pages, whose mapping takes as many tables.
@@ -38,12 +43,31 @@ pub struct Case {
     taken: u64,
 }
 
-/// Every case. In few tables the check is short, so that what a call does besides it can be told apart.
-pub fn all() -> impl Iterator<Item = Case> {
-    let large = |call, pages, taken| Case { call, tables: 512, frames: 4096, pages, taken };
-    let small = |call| Case { call, tables: 8, frames: 64, pages: 1, taken: 2 };
-    let maps = [(1, 2), (512, 2), (4096, 9), (130_000, 255)].map(|(pages, taken)| large(Call::Map, pages, taken));
-    maps.into_iter().chain([small(Call::Map), large(Call::Translate, 1, 2), small(Call::Translate)])
+/// One visit in this many goes to a case in which thousands of frames are written.
+const FOR_ONE_LONG: usize = 8;
+
+/// A case of the largest store.
+fn large(call: Call, (pages, taken): (u64, u64)) -> Case {
+    Case { call, tables: 512, frames: 4096, pages, taken }
+}
+
+/// A page in few tables: there the check is short, so that what a call does besides it can be told apart.
+fn small(call: Call) -> Case {
+    Case { call, tables: 8, frames: 64, pages: 1, taken: 2 }
+}
+
+/// `map` and `pgt_translate`.
+pub fn of_map() -> Vec<Case> {
+    let mut cases: Vec<Case> =
+        [(1, 2), (512, 2), (4096, 9), (130_000, 255)].map(|pages| large(Call::Map, pages)).into();
+    cases.extend([small(Call::Map), large(Call::Translate, (1, 2)), small(Call::Translate)]);
+    cases
+}
+
+/// `uvm_alloc` and `uvm_dealloc`.
+pub fn of_grow() -> Vec<Case> {
+    let of = |call| [(1, 2), (100, 2), (4096, 9)].map(|pages| large(call, pages)).into_iter().chain([small(call)]);
+    of(Call::Grow).chain(of(Call::Shrink)).collect()
 }
 
 impl Case {
@@ -52,20 +76,35 @@ impl Case {
         match self.call {
             Call::Map => "map",
             Call::Translate => "pgt_translate",
+            Call::Grow => "uvm_alloc",
+            Call::Shrink => "uvm_dealloc",
+        }
+    }
+
+    /// Of how many visits one goes to it.
+    pub fn one_of(&self) -> usize {
+        match self.call {
+            Call::Grow | Call::Shrink if self.pages > 1000 => FOR_ONE_LONG,
+            _ => 1,
         }
     }
 
     /// How many tables the call takes.
     pub fn taken(&self) -> u64 {
         match self.call {
-            Call::Map => self.taken,
-            Call::Translate => 0,
+            Call::Map | Call::Grow => self.taken,
+            Call::Translate | Call::Shrink => 0,
         }
+    }
+
+    /// How many bytes the pages have.
+    fn size(&self) -> u64 {
+        4096 * self.pages
     }
 
     /// The pages from page 0 on, to frames below the held window, with R, W, X and U.
     fn range(&self) -> Range {
-        Range { va: 0, pa: 0x8000_0000, size: 4096 * self.pages, permissions: 0x1e }
+        Range { va: 0, pa: 0x8000_0000, size: self.size(), permissions: 0x1e }
     }
 
     /// A store for it.
@@ -76,9 +115,12 @@ impl Case {
     /// Makes the store what it is before a call.
     pub fn restore(&self, held: &mut Held) {
         held.restore();
-        if self.call == Call::Translate {
-            ours::map(held, ROOT, &self.range());
-        }
+        match self.call {
+            Call::Map | Call::Grow => return,
+            Call::Translate => ours::map(held, ROOT, &self.range()),
+            Call::Shrink => ours::uvm_alloc(held, ROOT, 0, self.size()),
+        };
+        held.tell_free();
     }
 
     /// Our call.
@@ -96,38 +138,58 @@ impl Case {
         match self.call {
             Call::Map => ours::map(held, root, &self.range()),
             Call::Translate => ours::pgt_translate(held, root, self.range().va),
+            Call::Grow => ours::uvm_alloc(held, root, 0, self.size()),
+            Call::Shrink => ours::uvm_dealloc(held, root, self.size(), 0),
         }
     }
 
-    /// The Rust's: whether the pages are mapped, or the address.
+    /// The Rust's: whether the pages are mapped, the address, or the size.
     pub fn rust(&self, held: &mut Held) -> u64 {
         match self.call {
             Call::Map => rust::map(held, &self.range()).into(),
             Call::Translate => rust::pgt_translate(held, self.range().va),
+            Call::Grow => rust::uvm_alloc(held, 0, self.size()),
+            Call::Shrink => rust::uvm_dealloc(held, self.size(), 0),
         }
     }
 
-    /// Whether both sides do what they are to: the same answer, and the same words.
+    /// Our answer and the Rust's.
+    fn answers(&self) -> (u64, u64) {
+        match self.call {
+            Call::Map => (self.taken, 1),
+            Call::Translate => (self.range().pa, self.range().pa),
+            Call::Grow => (self.size(), self.size()),
+            Call::Shrink => (0, 0),
+        }
+    }
+
+    /// Makes the store what it is before a call, with something in the frames.
+    fn restore_used(&self, held: &mut Held) {
+        self.restore(held);
+        held.bytes_mut().fill(9);
+    }
+
+    /// Whether both sides do what they are to: the same answer, and the same words and bytes.
     pub fn compare(&self) -> Result<(), &'static str> {
         let mut held = self.store();
-        self.restore(&mut held);
+        self.restore_used(&mut held);
         if self.check(&mut held) != IS_NO_ROOT {
             return Err("no root is not refused as such");
         }
-        let (value, rust) = match self.call {
-            Call::Map => (self.taken, 1),
-            Call::Translate => (self.range().pa, self.range().pa),
-        };
+        let (value, rust) = self.answers();
         if self.ours(&mut held) != (Reply { number: 0, value }) {
             return Err("our answer is wrong");
         }
-        let words = held.words().to_vec();
-        self.restore(&mut held);
+        let (words, bytes) = (held.words().to_vec(), held.bytes().to_vec());
+        self.restore_used(&mut held);
         if self.rust(&mut held) != rust {
             return Err("the Rust's answer is wrong");
         }
         if held.words() != words {
             return Err("the words of the tables differ");
+        }
+        if held.bytes() != bytes {
+            return Err("the bytes of the frames differ");
         }
         Ok(())
     }

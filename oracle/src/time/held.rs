@@ -44,6 +44,12 @@ impl Held {
         self.words_mut().fill(0);
         self.table_marks.fill(0);
         self.table_marks[0] = ROOT;
+        self.frame_marks.fill(0);
+        self.tell_free();
+    }
+
+    /// Has the Rust know which of its pages are free.
+    pub fn tell_free(&self) {
         boxed::set_free(&self.table_marks, &self.frame_marks);
     }
 
@@ -59,8 +65,15 @@ impl Held {
         unsafe { from_raw_parts_mut(TABLES_AT as *mut u64, ENTRIES * self.table_marks.len()) }
     }
 
-    /// Where the bytes of the frames begin, and how many there are.
-    pub fn bytes(&self) -> (*const u8, usize) {
-        (FRAMES_AT as *const u8, PAGE * self.frame_marks.len())
+    /// The bytes of the frames, in the window.
+    pub fn bytes(&self) -> &[u8] {
+        // SAFETY: as above.
+        unsafe { from_raw_parts(FRAMES_AT as *const u8, PAGE * self.frame_marks.len()) }
+    }
+
+    /// The bytes, to be written.
+    pub fn bytes_mut(&mut self) -> &mut [u8] {
+        // SAFETY: as above, and the store is had mutably here.
+        unsafe { from_raw_parts_mut(FRAMES_AT as *mut u8, PAGE * self.frame_marks.len()) }
     }
 }
