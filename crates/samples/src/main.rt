@@ -1,30 +1,17 @@
-// The samples of document 01 that the layers so far answer, a line each: what the code says on them.
+// The samples of document 01, a line each: what the code says on them.
+mod calls;
+mod say;
+
 use address::NumberAnswer;
 use address::PhysicalAddress;
 use address::VirtualAddress;
-use libc::STDOUT_FILENO;
 use page_table_entry::EntryAnswer;
 use page_table_entry::PageTableEntry;
+use say::put;
+use say::put_number;
+use say::put_refusal;
+use say::put_word;
 ghost use Prim.Native.Nat.{_^_, _≤_};
-
-fn put(text: &[u8]) {
-    io::write_all(STDOUT_FILENO, text);
-}
-
-fn put_number(n: u64) {
-    put(b" ");
-    io::print_decimal(STDOUT_FILENO, n);
-}
-
-fn put_word(n: u64) {
-    put(b" 0x");
-    io::print_hex(STDOUT_FILENO, n, 1);
-}
-
-fn put_refusal(n: u64) {
-    put(b" no");
-    put_number(n);
-}
 
 fn put_index(a: NumberAnswer) {
     match a {
@@ -93,6 +80,12 @@ fn main() {
     missing(b"S10", 262143, 262145);
     missing(b"S11", 511, 1024);
     parts(b"S12", 0x2000_0007);
-    entry(b"S15", 0, 1023);
-    entry(b"S15", 0, 1024);
+    calls::growing(b"S13", 1, 4096);
+    calls::growing(b"S13", 0, 4097);
+    calls::mapping_with_2(b"S14", 22);
+    calls::mapping_with_3(b"S14", 22);
+    calls::loading(b"S15", &[7u8; 4095]);
+    calls::loading(b"S15", &[7u8; 4096]);
+    calls::mapping_with_8(b"S15", 1023);
+    calls::mapping_with_8(b"S15", 1024);
 }
