@@ -47,5 +47,5 @@ module _ (s : Store) (root old new : ℕ) where
       → Grown s root (pagesTo old) (gained old new) (λ _. 31) (λ _. zeroed) s′
   grow-grown v s′ a u =
       subst (Grown s root (pagesTo old) (gained old new) (λ _. 31) (λ _. zeroed)) (sym (u .1 .1))
-      (pages-grown (λ _. 31) (λ _. zeroed) (λ _. refl) (λ _. omega arith) (λ _. length-replicate {A = ℕ} 4096 0) (gained old new) s root (pagesTo old)
+      (pages-grown (λ _. 31) (λ _. zeroed) (gained old new) s root (pagesTo old) (λ x l h. (refl, omega arith, length-replicate {A = ℕ} 4096 0))
       (growable-where s root (pagesTo old) (gained old new) a (λ k x. u .0 k (pages x))))

@@ -2,7 +2,7 @@
 use mathlib.Core.Path.{_≡_, refl, sym, ap, _∙_, subst}
 use mathlib.Core.Logic.{inl, inr, by-cases}
 use mathlib.Core.List.{List}
-use Prim.Native.Nat.{ℕ, zero, suc, _+_, _*_, _%_, _^_, _<_}
+use Prim.Native.Nat.{ℕ, zero, suc, _+_, _*_, _%_, _^_, _≤_, _<_}
 use native.Mathlib.Nat.{add-zero, add-suc, suc-add}
 use native.Mathlib.Decide.{decLt}
 use native.Mathlib.Omega.{arith}
@@ -17,14 +17,18 @@ use Rattle.walk.proofs.MissingLaws.{missing-none}
 use Rattle.map.proofs.EnterPage.{part}
 use Rattle.unmap.specs.Leave.{Asked}
 use Rattle.grow.specs.Fill.{poolEntry}
-use Rattle.grow.specs.Fresh.{FreshReason, taken, no-frames, no-tables, freshPage, freshPages}
+use Rattle.grow.specs.Fresh.{FreshReason, taken, no-frames, no-tables, FreshReady, freshPage, freshPages}
 use Rattle.grow.specs.Grown.{FreshAt, FrameKept, Grown}
 use Rattle.grow.proofs.FrameBytes.{framed-here, framed-other}
 use Rattle.grow.proofs.FreshPage.{PageFresh}
 use Rattle.grow.proofs.FreshPages.{Growable, growable, first-fresh, fresh-step, others-may}
 
+-- flags and bytes that a page can have: V and no bit above the ten, and a whole frame
+abbrev pub Fillable : ℕ → List ℕ → Type 0
+Fillable q b = (q % 2 ≡ 1) × (q < 1024) × (length b ≡ 4096)
+
 -- frame f after one page has got another
-other-frame : (s s′ : Store) (r p q g : ℕ) (b : List ℕ) → Sized s → length b ≡ 4096 → PageFresh s s′ r p q g b → (f : ℕ) → (f ≡ g → ⊥) → FrameKept s f s′
+pub other-frame : (s s′ : Store) (r p q g : ℕ) (b : List ℕ) → Sized s → length b ≡ 4096 → PageFresh s s′ r p q g b → (f : ℕ) → (f ≡ g → ⊥) → FrameKept s f s′
 other-frame s s′ r p q g b z l a f n = record {
   mark = a .kept f n;
   bytes = λ k h.
@@ -32,9 +36,9 @@ other-frame s s′ r p q g b z l a f n = record {
       ∙ framed-other (s .bytes) g b l (omega (arith, z .bytes, a .there)) (4096 * f + k) (by-cases (decLt f g) (λ o. inl (omega arith)) (λ o. inr (omega arith)));
 }
 
-module _ (q : ℕ → ℕ) (b : ℕ → List ℕ) (qv : (x : ℕ) → q x % 2 ≡ 1) (q10 : (x : ℕ) → q x < 1024) (lb : (x : ℕ) → length (b x) ≡ 4096) where
+module _ (q : ℕ → ℕ) (b : ℕ → List ℕ) where
   -- the first page, and then the n after it
-  module _ (n : ℕ) (s : Store) (r p : ℕ) (c : Growable (suc n) s r p) (s₂ : Store) where
+  module _ (n : ℕ) (s : Store) (r p : ℕ) (ok : Fillable (q p) (b p)) (c : Growable (suc n) s r p) (s₂ : Store) where
     abbrev s₁ : Store
     s₁ = freshPage s r p (q p) (b p)
 
@@ -42,7 +46,7 @@ module _ (q : ℕ → ℕ) (b : ℕ → List ℕ) (qv : (x : ℕ) → q x % 2 �
     f₀ = lowest (s .fmarks)
 
     g : PageFresh s (freshPage s r p (q p) (b p)) r p (q p) (lowest (s .fmarks)) (b p)
-    g = first-fresh n s r p c (q p) (qv p) (q10 p) (b p) (lb p)
+    g = first-fresh n s r p c (q p) (ok .0) (ok .1) (b p) (ok .2)
 
     h : p + n < 2 ^ 26
     h = c .range n (omega arith)
@@ -51,7 +55,7 @@ module _ (q : ℕ → ℕ) (b : ℕ → List ℕ) (qv : (x : ℕ) → q x % 2 �
     next i = suc-add p i ∙ sym (add-suc p i)
 
     other : (f : ℕ) → (f ≡ f₀ → ⊥) → FrameKept s f s₁
-    other = other-frame s s₁ r p (q p) f₀ (b p) (c .sized) (lb p) g
+    other = other-frame s s₁ r p (q p) f₀ (b p) (c .sized) (ok .2) g
 
     module _ (t : Grown s₁ r (suc p) n q b s₂) where
       first : resolve s₂ r p ≡ poolEntry f₀ (q p)
@@ -68,7 +72,7 @@ module _ (q : ℕ → ℕ) (b : ℕ → List ℕ) (qv : (x : ℕ) → q x % 2 �
         entry = first;
         bytes = λ k l.
             t .taken f₀ (omega (arith, g .marked)) .bytes k l ∙ ap (λ (x : List ℕ). getD x (4096 * f₀ + k) 0) (g .bytes)
-            ∙ framed-here (s .bytes) f₀ (b p) (lb p) (omega (arith, c .sized .bytes, g .there)) k l;
+            ∙ framed-here (s .bytes) f₀ (b p) (ok .2) (omega (arith, c .sized .bytes, g .there)) k l;
       }
 
       fresh-later : (x : ℕ) → FreshAt s₁ r x (q x) (b x) s₂ → FreshAt s r x (q x) (b x) s₂
@@ -86,7 +90,7 @@ module _ (q : ℕ → ℕ) (b : ℕ → List ℕ) (qv : (x : ℕ) → q x % 2 �
 
       kept : (f : ℕ) → ((i : ℕ) → i < suc n → frameNo (resolve s₂ r (p + i)) ≡ poolNo f → ⊥) → FrameKept s f s₂
       kept f k =
-          both f (other f (λ e. k 0 (omega arith) (ap (λ (x : ℕ). frameNo (resolve s₂ r x)) (add-zero p) ∙ ap frameNo first ∙ (omega (arith, q10 p)))))
+          both f (other f (λ e. k 0 (omega arith) (ap (λ (x : ℕ). frameNo (resolve s₂ r x)) (add-zero p) ∙ ap frameNo first ∙ (omega (arith, ok .1)))))
           (t .kept f (λ i l e. k (suc i) (omega arith) (ap (λ (x : ℕ). frameNo (resolve s₂ r x)) (sym (next i)) ∙ e)))
 
       stays : (f : ℕ) → 0 < mark (s .fmarks) f → FrameKept s f s₂
@@ -107,13 +111,13 @@ module _ (q : ℕ → ℕ) (b : ℕ → List ℕ) (qv : (x : ℕ) → q x % 2 �
         kept = kept;
         taken = stays;
         pool = t .pool ∙ g .frames;
-        tables = omega (arith, t .tables, g .tables, fresh-step n s r p c (q p) (qv p) (q10 p) (b p) (lb p));
+        tables = omega (arith, t .tables, g .tables, fresh-step n s r p c (q p) (ok .0) (ok .1) (b p) (ok .2));
         frames = omega (arith, t .frames, g .free);
       }
 
-  pub pages-grown : (n : ℕ) (s : Store) (r p : ℕ) → Growable n s r p → Grown s r p n q b (freshPages s r p n q b)
+  pub pages-grown : (n : ℕ) (s : Store) (r p : ℕ) → ((x : ℕ) → p ≤ x → x < p + n → Fillable (q x) (b x)) → Growable n s r p → Grown s r p n q b (freshPages s r p n q b)
   unfolding freshPages
-  pages-grown zero s r p c = record {
+  pages-grown zero s r p ok c = record {
     sized = c .sized;
     well-formed = well-formed-of s (c .sized) (c .tree);
     fresh = λ i l. absurd (omega arith);
@@ -125,18 +129,19 @@ module _ (q : ℕ → ℕ) (b : ℕ → List ℕ) (qv : (x : ℕ) → q x % 2 �
     tables = omega (arith, missing-none s r p);
     frames = omega arith;
   }
-  pages-grown (suc n) s r p c =
-      then n s r p c (freshPages (freshPage s r p (q p) (b p)) r (suc p) n q b)
-      (pages-grown n (freshPage s r p (q p) (b p)) r (suc p) (others-may n s r p c (q p) (qv p) (q10 p) (b p) (lb p)))
+  pages-grown (suc n) s r p ok c =
+      let k : Fillable (q p) (b p) = ok p (omega arith) (omega arith) in
+      then n s r p k c (freshPages (freshPage s r p (q p) (b p)) r (suc p) n q b)
+      (pages-grown n (freshPage s r p (q p) (b p)) r (suc p) (λ x l h. ok x (omega arith) (omega arith)) (others-may n s r p c (q p) (k .0) (k .1) (b p) (k .2)))
 
--- where pages may be asked about and no reason applies, they can get fresh frames
+-- where no reason applies the pages are ready
+pub ready-where : (s : Store) (r p n : ℕ) → NoReason (FreshReason s r p n) → FreshReady s r p n
+ready-where s r p n clear = record {
+  unmapped = λ i l m. clear 14 (taken i l m);
+  frames = by-cases (decLt (freeFrames s) n) (λ l. absurd (clear 16 (no-frames l))) (λ l. omega arith);
+  tables = by-cases (decLt (freeTables s) (missing s r p n)) (λ l. absurd (clear 17 (no-tables l))) (λ l. omega arith);
+}
+
+-- where they may also be asked about, they can get fresh frames
 pub growable-where : (s : Store) (r p n : ℕ) → Asked s r p n → NoReason (FreshReason s r p n) → Growable n s r p
-growable-where s r p n a clear =
-    growable s r p n (record {
-      asked = a;
-      ready = record {
-        unmapped = λ i l m. clear 14 (taken i l m);
-        frames = by-cases (decLt (freeFrames s) n) (λ l. absurd (clear 16 (no-frames l))) (λ l. omega arith);
-        tables = by-cases (decLt (freeTables s) (missing s r p n)) (λ l. absurd (clear 17 (no-tables l))) (λ l. omega arith);
-      };
-    })
+growable-where s r p n a clear = growable s r p n (record { asked = a; ready = ready-where s r p n clear })

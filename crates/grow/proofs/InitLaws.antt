@@ -57,4 +57,4 @@ module _ (s : Store) (root : ℕ) (src : List ℕ) where
   init-grown v s′ a u =
       let short : length src < 4096 = by-cases (decLt (length src) 4096) (λ l. l) (λ l. absurd (u .0 5 (too-long (omega arith)))) in
       subst (Grown s root 0 1 (λ _. 31) (λ _. padded src)) (sym (u .1 .1))
-      (pages-grown (λ _. 31) (λ _. padded src) (λ _. refl) (λ _. omega arith) (λ _. padded-length src short) 1 s root 0 (growable-where s root 0 1 a (λ k x. u .0 k (page x))))
+      (pages-grown (λ _. 31) (λ _. padded src) 1 s root 0 (λ x l h. (refl, omega arith, padded-length src short)) (growable-where s root 0 1 a (λ k x. u .0 k (page x))))
