@@ -1,0 +1,19 @@
+-- The laws of the copies.
+pub mod PageReasons
+pub mod BytesLaws
+pub mod BytesCode
+pub mod CopyReasons
+pub mod InOutLaws
+pub mod PlaceLaws
+pub mod MovedLaws
+pub mod StrLaws
+pub mod TextCode
+pub mod TextReasons
+pub mod TextLaws
+pub mod FrameCopy
+pub mod PageBytes
+pub mod OneOwner
+pub mod ChildReasons
+pub mod Spared
+pub mod ChildLoop
+pub mod ChildLaws

@@ -1,0 +1,102 @@
+// A string from a process to the kernel, after `copy_in_str` of page_table.rs: measured and judged, then copied.
+use super::StrAnswer;
+use super::bytes as user;
+use super::needed;
+use address::VirtualAddress;
+ghost use mathlib.Core.Path.{_≡_};
+ghost use Rattle.store.specs.Count.{lowest};
+ghost use Rattle.store.specs.Store.{storeOf};
+ghost use Rattle.well_formed.specs.Root.{RootReady};
+ghost use Rattle.copies.specs.Str.{Str, Measures};
+
+// What lies on the way: the number of a refusal, or 0, how many bytes come before the zero or the end, and whether a zero was met.
+struct Way {
+    no: u64,
+    n: usize,
+    met: bool,
+}
+
+// The place of the first zero, or the length where there is none.
+fn first_zero(part: &[u8]) -> usize
+    ensures { λ r. ⌜ r ≡ lowest (now (part .entry)) ⌝ }
+{
+    let mut i = 0;
+    while i < part.len() {
+        if part[i] == 0 {
+            return i;
+        }
+        i += 1;
+    }
+    i
+}
+
+// Follows at most max bytes from va on, page by page, up to the first zero.
+fn measure(
+    words: &[u64],
+    tmarks: &[u32],
+    bytes: &[u8],
+    fmarks: &[u32],
+    root: usize,
+    va: u64,
+    max: usize,
+) -> Way
+    requires { ⌜ RootReady (storeOf (now words) (now tmarks) (now bytes) (now fmarks)) root ⌝ }
+    ensures { λ r. ⌜ Measures (storeOf (now (words .entry)) (now (tmarks .entry)) (now (bytes .entry)) (now (fmarks .entry))) root va max (r .no) (r .n) (r .met) ⌝ }
+{
+    let mut i = 0;
+    loop {
+        let a = va + (i as u64);
+        let no = needed::judge_page(words, tmarks, bytes, fmarks, root, a);
+        if no != 0 {
+            return Way {
+                no: no,
+                n: 0,
+                met: false,
+            };
+        }
+        let k = walk::lesser(4096 - (a % 4096) as usize, max - i);
+        let from = user::place(words, root, a);
+        let z = first_zero(&bytes[from..from + k]);
+        if z < k {
+            return Way {
+                no: 0,
+                n: i + z,
+                met: true,
+            };
+        }
+        i += k;
+        if i >= max {
+            return Way {
+                no: 0,
+                n: i,
+                met: false,
+            };
+        }
+    }
+}
+
+// The bytes from va on, up to the first zero, go to the buffer; behind the zero or the buffer's end nothing is looked at.
+pub fn copy_in_str(
+    words: &[u64],
+    tmarks: &[u32],
+    bytes: &[u8],
+    fmarks: &[u32],
+    root: u64,
+    va: VirtualAddress,
+    dst: &mut [u8],
+) -> StrAnswer
+    ensures { λ r. ⌜ Str (storeOf (now (words .entry)) (now (tmarks .entry)) (now (bytes .entry)) (now (fmarks .entry))) root (va .0) (now (dst .entry)) r (now (dst .exit)) ⌝ }
+{
+    let no = well_formed::judge_root(words, tmarks, bytes, fmarks, root);
+    if no != 0 {
+        return StrAnswer::Refused(no);
+    }
+    let r = root as usize;
+    let way = measure(words, tmarks, bytes, fmarks, r, va.0, dst.len());
+    if way.no != 0 {
+        return StrAnswer::Refused(way.no);
+    }
+    let n = way.n;
+    user::read_bytes(words, tmarks, bytes, fmarks, r, va.0, &mut dst[..n]);
+    StrAnswer::Read(n as u64, way.met)
+}
