@@ -1,6 +1,7 @@
 -- What each way out of `uvm_copy` says, that two answers to one call are the same, and what a success means. Assumes nothing.
 use mathlib.Core.Path.{_≡_, refl, sym, ap, _∙_, subst}
 use mathlib.Core.Logic.{by-cases}
+use mathlib.Core.List.{List}
 use Prim.Native.Nat.{ℕ, _+_, _*_, _/_, _%_, _^_, _<_}
 use native.Mathlib.Decide.{ℕ-discrete, decLt}
 use native.Mathlib.Nat.{zero-add}
@@ -22,9 +23,12 @@ use Rattle.grow.specs.Fresh.{freshPages}
 use Rattle.grow.specs.Grown.{FreshAt, Grown}
 use Rattle.grow.proofs.GrownLaws.{pages-grown, ready-where}
 use Rattle.copies.specs.Bytes.{byteAt}
+use Rattle.copies.specs.InOut.{Out}
 use Rattle.copies.specs.Child.{pageFlags, pageBytes, ChildReason, same, too-large, unaligned, unmapped, foreign, fresh, ChildReady, ChildDone, Child}
 use Rattle.copies.specs.Copied.{OwnFrame, Copied}
-use Rattle.copies.proofs.PageBytes.{bytes-get, page-byte}
+use Rattle.copies.proofs.BytesLaws.{bytes-get}
+use Rattle.copies.proofs.MovedLaws.{out-moved}
+use Rattle.copies.proofs.PageBytes.{page-byte}
 use Rattle.copies.proofs.OneOwner.{one-page}
 use Rattle.copies.proofs.ChildReasons.{clear}
 use Rattle.copies.proofs.ChildLoop.{child-may, fillable, in-use}
@@ -94,7 +98,7 @@ module _ (s : Store) (parent child size : ℕ) where
             }
 
         copied : (k : ℕ) → k < 4096 → byteAt s′ child (4096 * p + k) ≡ byteAt s parent (4096 * p + k)
-        copied k h = page-byte s′ child p (got .frame) number k h ∙ got .bytes k h ∙ bytes-get s parent 4096 (4096 * p) k h
+        copied k h = page-byte s′ child p (got .frame) number k h ∙ got .bytes k h ∙ bytes-get s parent (4096 * p) 4096 k h
 
         parent-page : resolve s′ parent p ≡ resolve s parent p
         parent-page = child-grown .others parent p (rp .is-root) below (λ e _ _. ready .apart (sym e))
@@ -120,3 +124,15 @@ module _ (s : Store) (parent child size : ℕ) where
         parent-bytes = λ va h. at-address parent parent va h parent-kept;
         parent-pages = λ p h. child-grown .others parent p (rp .is-root) h (λ e _ _. ready .apart (sym e));
       }
+
+      -- a write through the child never reaches the parent
+      pub child-apart : (va : ℕ) (src : List ℕ) (w : ℕ) (s″ : Store) → Out s′ child va src (Done w) s″ → (a : ℕ) → a < size → byteAt s″ parent a ≡ byteAt s parent a
+      child-apart va src w s″ o a h =
+          let g = child-grown in
+          let l : a / 4096 < size / 4096 = omega (arith, ready .aligned) in
+          let f = ready .pool (a / 4096) l in
+          let e : resolve s′ parent (a / 4096) ≡ resolve s parent (a / 4096) = parent-page (a / 4096) l in
+          out-moved s′ child va (record { sized = g .sized; formed = g .well-formed; is-root = g .roots child .0 (rc .is-root) }) src w s″ o .others parent a
+          (g .roots parent .0 (rp .is-root)) (omega (arith, ready .small)) (record { frame = f .frame; there = omega (arith, f .there, g .pool); number = ap frameNo e ∙ f .number })
+          (λ q _ _. ready .apart (sym q))
+          ∙ child-copied .parent-bytes a h

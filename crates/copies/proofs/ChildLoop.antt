@@ -22,7 +22,8 @@ use Rattle.grow.proofs.FreshPages.{Growable, growable, first-fresh}
 use Rattle.grow.proofs.GrownLaws.{Fillable}
 use Rattle.grow.proofs.GrowLoop as loop
 use Rattle.copies.specs.Child.{pageFlags, pageBytes, ChildReady}
-use Rattle.copies.proofs.PageBytes.{bytes-length, page-bytes}
+use Rattle.copies.proofs.BytesLaws.{bytes-length}
+use Rattle.copies.proofs.PageBytes.{page-bytes}
 use Rattle.copies.proofs.OneOwner.{frame-mark}
 use Rattle.copies.proofs.Spared.{Spared, spared, spared-more}
 
@@ -46,7 +47,7 @@ module _ (s₀ : Store) (parent child size : ℕ) (c : ChildReady s₀ parent ch
       (record { asked = record { sized = r .sized; formed = r .formed; is-root = r .is-root; pages = omega (arith, c .small) }; ready = c .fresh })
 
   pub fillable : (x : ℕ) → x < size / 4096 → Fillable (q x) (b x)
-  fillable x l = (omega (arith, c .mapped x l), omega arith, bytes-length s₀ parent 4096 (4096 * x))
+  fillable x l = (omega (arith, c .mapped x l), omega arith, bytes-length s₀ parent (4096 * x) 4096)
 
   -- the frame of a parent's page is in use
   pub in-use : (x : ℕ) (l : x < size / 4096) → 0 < mark (s₀ .fmarks) (c .pool x l .frame)

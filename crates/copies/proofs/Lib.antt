@@ -4,6 +4,7 @@ pub mod BytesLaws
 pub mod BytesCode
 pub mod CopyReasons
 pub mod InOutLaws
+pub mod OneOwner
 pub mod PlaceLaws
 pub mod MovedLaws
 pub mod StrLaws
@@ -12,7 +13,6 @@ pub mod TextReasons
 pub mod TextLaws
 pub mod FrameCopy
 pub mod PageBytes
-pub mod OneOwner
 pub mod ChildReasons
 pub mod Spared
 pub mod ChildLoop
