@@ -5,6 +5,7 @@ mod marks;
 
 pub use fill::copy_bytes;
 pub use fill::zero_bytes;
+pub use fill::zero_words;
 pub use marks::count_free;
 pub use marks::level_of;
 pub use marks::lowest_free;

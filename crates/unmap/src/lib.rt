@@ -4,6 +4,7 @@ mod leave;
 mod unmapping;
 
 pub use judge::judge_leave;
+pub use judge::judge_unmap;
 pub use leave::leave_pages;
 pub use unmapping::uvm_clear;
 pub use unmapping::uvm_unmap;

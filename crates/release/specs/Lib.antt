@@ -1,0 +1,4 @@
+-- What the contracts of `free` and of the calls made of parts cite.
+pub mod Free
+pub mod FreeTree
+pub mod Freed

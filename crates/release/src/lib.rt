@@ -1,0 +1,4 @@
+// Giving back all tables of a root, after `free` of page_table.rs, and the calls that take out pages before it.
+mod tree;
+
+pub use tree::free;
