@@ -10,3 +10,4 @@ pub use fresh::judge_fresh;
 pub use growing::uvm_alloc;
 pub use init::uvm_init;
 pub use shrink::uvm_dealloc;
+pub use sizes::pages_to;

@@ -47,15 +47,17 @@ module _ (s : Store) (root : ℕ) where
   pub can-count : RootReady s root → (root < 512) × (0 ≤ 2 ^ 26) × (2 ^ 26 ≤ 2 ^ 26) × (0 < 1)
   can-count r = (omega (arith, in-range (s .tmarks) root (λ e. omega (arith, r .is-root)), r .sized .tables-to), omega arith, omega arith, omega arith)
 
+  -- a root with a mapped page
+  pub still-mapped : RootReady s root → Some → Judges R F 18
+  still-mapped r m = then-judged F split eighteen (root-clear s root r) (λ f. f) 18 (just-no 18 Some F (omega arith) m)
+
   -- n pages of the root are mapped
   module _ (r : RootReady s root) (n : ℕ) (c : PagesAlike (s .words) root 0 (2 ^ 26) 1 1 n) where
     some : (k : ℕ) × (0 ≤ k) × (k < 2 ^ 26) × (bitAnd (entryIn (s .words) root 2 k) 1 ≡ 1) → Some
     some (k, l, h, b) = (k, h, counted-mapped s root k b)
 
     pub no-18 : (n ≡ 0 → ⊥) → Judges R F 18
-    no-18 h =
-        then-judged F split eighteen (root-clear s root r) (λ f. f) 18
-        (just-no 18 Some F (omega arith) (some (one-has (entryIn (s .words) root 2) 1 1 0 (2 ^ 26) n (omega arith) c (omega arith))))
+    no-18 h = still-mapped r (some (one-has (entryIn (s .words) root 2) 1 1 0 (2 ^ 26) n (omega arith) c (omega arith)))
 
     none : n ≡ 0 → Some → ⊥
     none e (p, h, m) = none-has (entryIn (s .words) root 2) 1 1 0 (2 ^ 26) n (omega arith) c e p (omega arith) h (mapped-counted s root p m)

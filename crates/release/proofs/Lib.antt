@@ -9,3 +9,6 @@ pub mod Released
 pub mod GivenBack
 pub mod FreedLaws
 pub mod FreeLaws
+pub mod LeaveSame
+pub mod RestLaws
+pub mod CutLaws

@@ -3,3 +3,4 @@ pub mod Free
 pub mod FreeTree
 pub mod Freed
 pub mod Parts
+pub mod PartsReady

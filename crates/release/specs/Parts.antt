@@ -21,8 +21,8 @@ UvmFree root zero s r s′ = Free s root r s′
 UvmFree root (suc size) s r s′ = Then (λ t a t′. Unmap t root 0 (pagesTo (suc size)) true a t′) (λ t a t′. Free t root a t′) s r s′
 
 -- the page at va leaves without freeing
-abbrev pub Out : ℕ → ℕ → Store → Answer → Store → Type 0
-Out root va s r s′ = Unmap s root va 1 false r s′
+abbrev pub UnmapOne : ℕ → ℕ → Store → Answer → Store → Type 0
+UnmapOne root va s r s′ = Unmap s root va 1 false r s′
 
 abbrev pub trampoline : ℕ
 trampoline = 0x3F_FFFF_F000
@@ -31,7 +31,7 @@ abbrev pub trapframe : ℕ
 trapframe = 0x3F_FFFF_E000
 
 abbrev pub SharedFree : ℕ → ℕ → Store → Answer → Store → Type 0
-SharedFree root size s r s′ = Then (Out root trampoline) (UvmFree root size) s r s′
+SharedFree root size s r s′ = Then (UnmapOne root trampoline) (UvmFree root size) s r s′
 
 abbrev pub ProcFree : ℕ → ℕ → Store → Answer → Store → Type 0
-ProcFree root size s r s′ = Then (Out root trampoline) (Then (Out root trapframe) (UvmFree root size)) s r s′
+ProcFree root size s r s′ = Then (UnmapOne root trampoline) (Then (UnmapOne root trapframe) (UvmFree root size)) s r s′

@@ -1,4 +1,6 @@
 // Giving back all tables of a root, after `free` of page_table.rs, and the calls that take out pages before it.
+mod parts;
 mod tree;
 
+pub use parts::uvm_free;
 pub use tree::free;
