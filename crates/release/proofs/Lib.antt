@@ -12,3 +12,4 @@ pub mod FreeLaws
 pub mod LeaveSame
 pub mod RestLaws
 pub mod CutLaws
+pub mod PageLaws

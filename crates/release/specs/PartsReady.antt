@@ -1,7 +1,7 @@
 -- What the judges of the calls made of parts answer. They read the store as it is, and speak of what the parts before would leave.
 use mathlib.Core.Path.{_≡_}
 use mathlib.Core.Bool.{true, false}
-use Prim.Native.Nat.{ℕ, _^_, _≤_, _<_}
+use Prim.Native.Nat.{ℕ, _/_, _^_, _≤_, _<_}
 use lib.ListN.{length}
 use Rattle.store.specs.Store.{Store}
 use Rattle.store.specs.Walk.{resolve}
@@ -11,7 +11,7 @@ use Rattle.well_formed.specs.Root.{RootReady}
 use Rattle.unmap.specs.Leave.{leavePages, CanLeave}
 use Rattle.grow.specs.Sizes.{pagesTo}
 use Rattle.release.specs.Free.{FreeReady}
-use Rattle.release.specs.Parts.{UvmFree}
+use Rattle.release.specs.Parts.{UvmFree, trampoline, trapframe}
 
 -- n is what call P is refused with on s, or 0 where F holds of s
 pub record JudgesParts (P : Store → Answer → Store → Type 0) (F : Store → Type 0) (s : Store) (n : ℕ) : Type 0 where
@@ -27,6 +27,12 @@ pub record RestReady (root size : ℕ) (s : Store) : Type 0 where
 pub record PageReady (root p : ℕ) (F : Store → Type 0) (s : Store) : Type 0 where
   pub leave : CanLeave s root p 1 false
   pub rest : F (leavePages s root p 1 false)
+
+abbrev pub SharedReady : ℕ → ℕ → Store → Type 0
+SharedReady root size s = PageReady root (trampoline / 4096) (RestReady root size) s
+
+abbrev pub ProcReady : ℕ → ℕ → Store → Type 0
+ProcReady root size s = PageReady root (trampoline / 4096) (PageReady root (trapframe / 4096) (RestReady root size)) s
 
 -- s′ is s where the pages of the root from page top on have gone
 pub record Cut (s : Store) (root top : ℕ) (s′ : Store) : Type 0 where

@@ -2,5 +2,7 @@
 mod parts;
 mod tree;
 
+pub use parts::free_shared_user_pagetable;
+pub use parts::proc_free_pagetable;
 pub use parts::uvm_free;
 pub use tree::free;
