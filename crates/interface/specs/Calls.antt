@@ -15,7 +15,11 @@ use Rattle.unmap.specs.Clear.{Clear}
 use Rattle.grow.specs.Init.{Init}
 use Rattle.grow.specs.Grow.{Grow}
 use Rattle.grow.specs.Shrink.{Shrink}
-use Rattle.interface.specs.Reply.{Replied}
+use Rattle.copies.specs.InOut.{In, Out}
+use Rattle.copies.specs.Str.{Str}
+use Rattle.copies.specs.Child.{Child}
+use Rattle.copies.specs.declared.StrAnswer.{StrAnswer}
+use Rattle.interface.specs.Reply.{Replied, StrReplied}
 use Rattle.interface.specs.declared.Reply.{Reply}
 
 abbrev pub SetUpReply : Store → Reply → Store → Type 0
@@ -50,3 +54,15 @@ GrowReply s root old new r s′ = Replied (λ (a : Answer). Grow s root old new 
 
 abbrev pub ShrinkReply : Store → ℕ → ℕ → ℕ → Reply → Store → Type 0
 ShrinkReply s root old new r s′ = Replied (λ (a : Answer). Shrink s root old new a s′) r
+
+abbrev pub InReply : Store → ℕ → ℕ → List ℕ → Reply → List ℕ → Type 0
+InReply s root va dst r dst′ = Replied (λ (a : Answer). In s root va dst a dst′) r
+
+abbrev pub OutReply : Store → ℕ → ℕ → List ℕ → Reply → Store → Type 0
+OutReply s root va src r s′ = Replied (λ (a : Answer). Out s root va src a s′) r
+
+abbrev pub StrReply : Store → ℕ → ℕ → List ℕ → Reply → List ℕ → Type 0
+StrReply s root va dst r dst′ = StrReplied (λ (a : StrAnswer). Str s root va dst a dst′) r
+
+abbrev pub ChildReply : Store → ℕ → ℕ → ℕ → Reply → Store → Type 0
+ChildReply s parent child size r s′ = Replied (λ (a : Answer). Child s parent child size a s′) r

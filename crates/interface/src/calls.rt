@@ -1,10 +1,11 @@
 // The calls on a store, which is four lent slices: an address is a number, and an answer is a reply.
 use super::Reply;
 use super::replies::answer_reply;
+use super::replies::str_reply;
 use address::PhysicalAddress;
 use address::VirtualAddress;
 ghost use Rattle.store.specs.Store.{storeOf};
-ghost use Rattle.interface.specs.Calls.{SetUpReply, CheckReply, TranslateReply, SatpReply, CreateReply, MapReply, UnmapReply, ClearReply, InitReply, GrowReply, ShrinkReply};
+ghost use Rattle.interface.specs.Calls.{SetUpReply, CheckReply, TranslateReply, SatpReply, CreateReply, MapReply, UnmapReply, ClearReply, InitReply, GrowReply, ShrinkReply, InReply, OutReply, StrReply, ChildReply};
 
 #[no_mangle]
 pub extern "C" fn ronakvesh_set_up(
@@ -193,4 +194,68 @@ pub extern "C" fn ronakvesh_uvm_dealloc(
         (storeOf (now (words .exit)) (now (tmarks .entry)) (now (bytes .entry)) (now (fmarks .exit))) ⌝ }
 {
     answer_reply(grow::uvm_dealloc(words, tmarks, bytes, fmarks, root, old, new))
+}
+
+#[no_mangle]
+pub extern "C" fn ronakvesh_copy_in(
+    words: &[u64],
+    tmarks: &[u32],
+    bytes: &[u8],
+    fmarks: &[u32],
+    root: u64,
+    va: u64,
+    dst: &mut [u8],
+) -> Reply
+    ensures { λ r. ⌜ InReply (storeOf (now (words .entry)) (now (tmarks .entry)) (now (bytes .entry)) (now (fmarks .entry))) root va (now (dst .entry)) r (now (dst .exit)) ⌝ }
+{
+    answer_reply(copies::copy_in(words, tmarks, bytes, fmarks, root, VirtualAddress(va), dst))
+}
+
+#[no_mangle]
+pub extern "C" fn ronakvesh_copy_out(
+    words: &[u64],
+    tmarks: &[u32],
+    bytes: &mut [u8],
+    fmarks: &[u32],
+    root: u64,
+    va: u64,
+    src: &[u8],
+) -> Reply
+    ensures { λ r. ⌜ OutReply
+        (storeOf (now (words .entry)) (now (tmarks .entry)) (now (bytes .entry)) (now (fmarks .entry))) root va (now (src .entry)) r
+        (storeOf (now (words .entry)) (now (tmarks .entry)) (now (bytes .exit)) (now (fmarks .entry))) ⌝ }
+{
+    answer_reply(copies::copy_out(words, tmarks, bytes, fmarks, root, VirtualAddress(va), src))
+}
+
+#[no_mangle]
+pub extern "C" fn ronakvesh_copy_in_str(
+    words: &[u64],
+    tmarks: &[u32],
+    bytes: &[u8],
+    fmarks: &[u32],
+    root: u64,
+    va: u64,
+    dst: &mut [u8],
+) -> Reply
+    ensures { λ r. ⌜ StrReply (storeOf (now (words .entry)) (now (tmarks .entry)) (now (bytes .entry)) (now (fmarks .entry))) root va (now (dst .entry)) r (now (dst .exit)) ⌝ }
+{
+    str_reply(copies::copy_in_str(words, tmarks, bytes, fmarks, root, VirtualAddress(va), dst))
+}
+
+#[no_mangle]
+pub extern "C" fn ronakvesh_uvm_copy(
+    words: &mut [u64],
+    tmarks: &mut [u32],
+    bytes: &mut [u8],
+    fmarks: &mut [u32],
+    parent: u64,
+    child: u64,
+    size: u64,
+) -> Reply
+    ensures { λ r. ⌜ ChildReply
+        (storeOf (now (words .entry)) (now (tmarks .entry)) (now (bytes .entry)) (now (fmarks .entry))) parent child size r
+        (storeOf (now (words .exit)) (now (tmarks .exit)) (now (bytes .exit)) (now (fmarks .exit))) ⌝ }
+{
+    answer_reply(copies::uvm_copy(words, tmarks, bytes, fmarks, parent, child, size))
 }

@@ -3,13 +3,14 @@ use super::Reply;
 use address::NumberAnswer;
 use address::PhysicalAnswer;
 use address::VirtualAnswer;
+use copies::StrAnswer;
 use page_table_entry::EntryAnswer;
 use store::Answer;
 ghost use mathlib.Core.Path.{_≡_};
 ghost use Rattle.address.specs.Answer.{numberSaid, virtualSaid, physicalSaid};
 ghost use Rattle.page_table_entry.specs.Built.{entrySaid};
 ghost use Rattle.store.specs.Outcome.{answerSaid};
-ghost use Rattle.interface.specs.Reply.{replyOf};
+ghost use Rattle.interface.specs.Reply.{strSaid, replyOf};
 
 pub fn number_reply(n: NumberAnswer) -> Reply
     ensures { λ r. ⌜ r ≡ replyOf (numberSaid n) ⌝ }
@@ -62,5 +63,15 @@ pub fn answer_reply(a: Answer) -> Reply
     match a {
         Answer::Done(value) => Reply { number: 0, value },
         Answer::Refused(number) => Reply { number, value: 0 },
+    }
+}
+
+// Of the two values the first; whether a zero was met is whether it is less than the buffer is long.
+pub fn str_reply(a: StrAnswer) -> Reply
+    ensures { λ r. ⌜ r ≡ replyOf (strSaid a) ⌝ }
+{
+    match a {
+        StrAnswer::Read(value, _) => Reply { number: 0, value },
+        StrAnswer::Refused(number) => Reply { number, value: 0 },
     }
 }

@@ -1,0 +1,2 @@
+-- What follows from a reply.
+pub mod StrReplies
