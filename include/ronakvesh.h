@@ -5,9 +5,10 @@
  *   1  a store of the wrong sizes
  *   2  a store that is not well formed
  *   3  a root that is none
+ *   4  a child root that is its parent
  *   5  a source of 4096 bytes or more
- *   6  a result that leaves 64 bits, a level above 2, a page at or above 2^38, or a size above 2^38
- *   7  an address that is no multiple of 4096
+ *   6  a result that leaves 64 bits, a level above 2, a page or byte at or above 2^38, or a size above 2^38
+ *   7  an address or a size that is no multiple of 4096
  *   8  permissions above 1023
  *   9  a frame at or above 2^56
  *  10  a frame of the held window, 0x1_0000_0000 up to 0x1_2000_0000, where the store itself lies, that is to be mapped,
@@ -16,9 +17,10 @@
  *  12  a page that lacks U
  *  13  a page to be unmapped whose flags are exactly 1
  *  14  a page that is mapped already
+ *  15  a page to be copied whose frame is none of the pool
  *  16  more frames needed than free
  *  17  more tables needed than free
- * Where more than one applies, the smallest is given. */
+ * Where more than one applies, the smallest is given, save by ronakvesh_copy_in_str. */
 #ifndef RONAKVESH_H
 #define RONAKVESH_H
 
@@ -192,6 +194,39 @@ ronakvesh_reply ronakvesh_uvm_alloc(uint64_t *words, size_t word_count, uint32_t
 ronakvesh_reply ronakvesh_uvm_dealloc(uint64_t *words, size_t word_count, const uint32_t *table_marks, size_t tables,
                                       const uint8_t *bytes, size_t byte_count, uint32_t *frame_marks, size_t frames,
                                       uint64_t root, uint64_t old_size, uint64_t new_size);
+
+/* Copies count bytes from va on to the buffer, which does not overlap the store. The page of each byte is needed, and for
+ * count 0 the page of va. The value is 0. 1, 2, 3, 6, 11, 12, 15, and then nothing is written. */
+ronakvesh_reply ronakvesh_copy_in(const uint64_t *words, size_t word_count, const uint32_t *table_marks, size_t tables,
+                                  const uint8_t *bytes, size_t byte_count, const uint32_t *frame_marks, size_t frames,
+                                  uint64_t root, uint64_t va, uint8_t *buffer, size_t count);
+
+/* Copies count bytes of the source, which does not overlap the store, to the bytes from va on. The page of each byte is
+ * needed, and for count 0 the page of va. The value is 0. 1, 2, 3, 6, 11, 12, 15, and then nothing is written. */
+ronakvesh_reply ronakvesh_copy_out(const uint64_t *words, size_t word_count, const uint32_t *table_marks, size_t tables,
+                                   uint8_t *bytes, size_t byte_count, const uint32_t *frame_marks, size_t frames,
+                                   uint64_t root, uint64_t va, const uint8_t *source, size_t count);
+
+/* Copies the bytes from va on up to the first zero, at most count, to the buffer, which does not overlap the store; the
+ * zero is not copied, and the rest of the buffer stays. The value is how many were copied; ronakvesh_zero_was_met tells
+ * whether the zero was met. 1, 2, 3; or 6, 11, 12, 15, the smallest for the first page on the way that cannot be read, and
+ * then nothing is written. Pages behind the zero or behind count bytes are not looked at; for count 0 the page of va is. */
+ronakvesh_reply ronakvesh_copy_in_str(const uint64_t *words, size_t word_count, const uint32_t *table_marks, size_t tables,
+                                      const uint8_t *bytes, size_t byte_count, const uint32_t *frame_marks, size_t frames,
+                                      uint64_t root, uint64_t va, uint8_t *buffer, size_t count);
+
+/* Was a zero met by ronakvesh_copy_in_str, with this reply and this count? It was where fewer bytes were copied; not where
+ * the call was refused. */
+static inline bool ronakvesh_zero_was_met(ronakvesh_reply reply, size_t count) {
+    return reply.number == 0 && reply.value < count;
+}
+
+/* Copies the pages that size bytes from 0 on take from a parent root to a child root: each page of the child gets the lowest
+ * free frame, with the flags and the bytes of the parent's. The value is 0. 1, 2, 3, 4, 6, 7, 11, 14, 15, 16, 17, and then
+ * nothing is written. */
+ronakvesh_reply ronakvesh_uvm_copy(uint64_t *words, size_t word_count, uint32_t *table_marks, size_t tables,
+                                   uint8_t *bytes, size_t byte_count, uint32_t *frame_marks, size_t frames,
+                                   uint64_t parent, uint64_t child, uint64_t size);
 
 #ifdef __cplusplus
 }
