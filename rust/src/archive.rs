@@ -146,6 +146,65 @@ extern "C" {
         new: u64,
     ) -> Reply;
 
+    pub fn ronakvesh_copy_in(
+        words: *const u64,
+        words_length: usize,
+        tmarks: *const u32,
+        tmarks_length: usize,
+        bytes: *const u8,
+        bytes_length: usize,
+        fmarks: *const u32,
+        fmarks_length: usize,
+        root: u64,
+        va: u64,
+        dst: *mut u8,
+        dst_length: usize,
+    ) -> Reply;
+
+    pub fn ronakvesh_copy_out(
+        words: *const u64,
+        words_length: usize,
+        tmarks: *const u32,
+        tmarks_length: usize,
+        bytes: *mut u8,
+        bytes_length: usize,
+        fmarks: *const u32,
+        fmarks_length: usize,
+        root: u64,
+        va: u64,
+        src: *const u8,
+        src_length: usize,
+    ) -> Reply;
+
+    pub fn ronakvesh_copy_in_str(
+        words: *const u64,
+        words_length: usize,
+        tmarks: *const u32,
+        tmarks_length: usize,
+        bytes: *const u8,
+        bytes_length: usize,
+        fmarks: *const u32,
+        fmarks_length: usize,
+        root: u64,
+        va: u64,
+        dst: *mut u8,
+        dst_length: usize,
+    ) -> Reply;
+
+    pub fn ronakvesh_uvm_copy(
+        words: *mut u64,
+        words_length: usize,
+        tmarks: *mut u32,
+        tmarks_length: usize,
+        bytes: *mut u8,
+        bytes_length: usize,
+        fmarks: *mut u32,
+        fmarks_length: usize,
+        parent: u64,
+        child: u64,
+        size: u64,
+    ) -> Reply;
+
     pub fn ronakvesh_pgt_translate(
         words: *const u64,
         words_length: usize,

@@ -46,6 +46,10 @@ fn all_refuse(memory: &mut Memory, refusal: Refusal) {
     refuses(memory, refusal, |store| store.uvm_init(0, &[]));
     refuses(memory, refusal, |store| store.uvm_alloc(0, 0, 0));
     refuses(memory, refusal, |store| store.uvm_dealloc(0, 0, 0));
+    refuses(memory, refusal, |store| store.copy_in(0, VirtualAddress(0), &mut []));
+    refuses(memory, refusal, |store| store.copy_out(0, VirtualAddress(0), &[]));
+    refuses(memory, refusal, |store| store.copy_in_str(0, VirtualAddress(0), &mut []));
+    refuses(memory, refusal, |store| store.uvm_copy(0, 0, 0));
     refuses(memory, refusal, |store| find(store, 0, 0));
     refuses(memory, refusal, |store| store.as_satp(0));
 }
@@ -95,6 +99,11 @@ fn no_root() {
         refuses(&mut memory, Refusal::NoRoot, |store| store.uvm_init(root, &[]));
         refuses(&mut memory, Refusal::NoRoot, |store| store.uvm_alloc(root, 0, 0));
         refuses(&mut memory, Refusal::NoRoot, |store| store.uvm_dealloc(root, 0, 0));
+        refuses(&mut memory, Refusal::NoRoot, |store| store.copy_in(root, VirtualAddress(0), &mut []));
+        refuses(&mut memory, Refusal::NoRoot, |store| store.copy_out(root, VirtualAddress(0), &[]));
+        refuses(&mut memory, Refusal::NoRoot, |store| store.copy_in_str(root, VirtualAddress(0), &mut []));
+        refuses(&mut memory, Refusal::NoRoot, |store| store.uvm_copy(root, 0, 0));
+        refuses(&mut memory, Refusal::NoRoot, |store| store.uvm_copy(0, root, 0));
         refuses(&mut memory, Refusal::NoRoot, |store| find(store, root, 0));
         refuses(&mut memory, Refusal::NoRoot, |store| store.as_satp(root));
     }
