@@ -153,4 +153,8 @@ calls! {
     uvm_init = ronakvesh_uvm_init(root; src);
     uvm_alloc = ronakvesh_uvm_alloc(root, old, new);
     uvm_dealloc = ronakvesh_uvm_dealloc(root, old, new);
+    copy_in = ronakvesh_copy_in(root, va; dst);
+    copy_out = ronakvesh_copy_out(root, va; src);
+    copy_in_str = ronakvesh_copy_in_str(root, va; dst);
+    uvm_copy = ronakvesh_uvm_copy(parent, child, size);
 }

@@ -20,7 +20,7 @@ pub fn quiet_panics() {
 }
 
 /// What the Rust answers, a panic included.
-pub fn caught(rust: impl Fn() -> Answer) -> Answer {
+pub fn caught(rust: impl FnMut() -> Answer) -> Answer {
     IN_THE_RUST.set(true);
     let answer = catch_unwind(AssertUnwindSafe(rust)).unwrap_or(Answer::Panicked);
     IN_THE_RUST.set(false);

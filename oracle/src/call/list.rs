@@ -5,7 +5,7 @@ use crate::answer::{Answer, Build};
 use crate::archive::{self, Numbers, Reply, Slices, NO_NUMBERS};
 use crate::call::inputs::{self, Inputs};
 use crate::call::listed;
-use crate::call::{map, original, uvm_alloc, uvm_clear, uvm_dealloc, uvm_init, uvm_unmap, uvmcreate};
+use crate::call::{copies, map, original, uvm_alloc, uvm_clear, uvm_copy, uvm_dealloc, uvm_init, uvm_unmap, uvmcreate};
 use crate::listed::Listed;
 use crate::model::calls;
 use crate::model::numbers::ROOT;
@@ -32,9 +32,13 @@ pub struct Call {
     pub numbers: usize,
     /// How often it is made where others are made once.
     pub times: u64,
+    /// In how many calls or fewer there is one for which the Rust may be run.
+    pub for_one_run: u64,
     /// Whether its random choices come from a copy of the stream, so that those for other calls and later stores do not
     /// depend on it.
     pub apart: bool,
+    /// Whether a well-formed store is given pages with bytes in them first.
+    pub peopled: bool,
     pub writes: Writes,
     /// Numbers to make it with.
     pub any: fn(&Inputs, &mut Random) -> Numbers,
@@ -64,12 +68,14 @@ impl Call {
 }
 
 /// Every call that is compared.
-pub static CALLS: [Call; 9] = [
+pub static CALLS: [Call; 13] = [
     Call {
         name: "pgt_translate",
         numbers: 2,
         times: 1,
+        for_one_run: 1,
         apart: false,
+        peopled: false,
         writes: Writes::Nothing,
         any: inputs::root_and_address,
         vary: None,
@@ -87,7 +93,9 @@ pub static CALLS: [Call; 9] = [
         name: "as_satp",
         numbers: 1,
         times: 1,
+        for_one_run: 1,
         apart: false,
+        peopled: false,
         writes: Writes::Nothing,
         any: inputs::root,
         vary: None,
@@ -105,7 +113,9 @@ pub static CALLS: [Call; 9] = [
         name: "uvmcreate",
         numbers: 0,
         times: 1,
+        for_one_run: 1,
         apart: false,
+        peopled: false,
         writes: Writes::Tables,
         any: |_, _| NO_NUMBERS,
         vary: Some(uvmcreate::vary),
@@ -123,7 +133,9 @@ pub static CALLS: [Call; 9] = [
         name: "map",
         numbers: 5,
         times: 2,
+        for_one_run: 1,
         apart: false,
+        peopled: false,
         writes: Writes::Tables,
         any: map::inputs::any,
         vary: None,
@@ -141,7 +153,9 @@ pub static CALLS: [Call; 9] = [
         name: "uvm_unmap",
         numbers: 4,
         times: 1,
+        for_one_run: 1,
         apart: false,
+        peopled: false,
         writes: Writes::Frames,
         any: uvm_unmap::inputs::any,
         vary: None,
@@ -159,7 +173,9 @@ pub static CALLS: [Call; 9] = [
         name: "uvm_clear",
         numbers: 2,
         times: 1,
+        for_one_run: 1,
         apart: false,
+        peopled: false,
         writes: Writes::Tables,
         any: inputs::root_and_address,
         vary: None,
@@ -177,7 +193,9 @@ pub static CALLS: [Call; 9] = [
         name: "uvm_dealloc",
         numbers: 3,
         times: 1,
+        for_one_run: 1,
         apart: true,
+        peopled: false,
         writes: Writes::Frames,
         any: uvm_dealloc::inputs::any,
         vary: None,
@@ -195,7 +213,9 @@ pub static CALLS: [Call; 9] = [
         name: "uvm_init",
         numbers: 2,
         times: 1,
+        for_one_run: 1,
         apart: true,
+        peopled: false,
         writes: Writes::Frames,
         any: uvm_init::any,
         vary: None,
@@ -213,7 +233,9 @@ pub static CALLS: [Call; 9] = [
         name: "uvm_alloc",
         numbers: 3,
         times: 1,
+        for_one_run: 1,
         apart: true,
+        peopled: false,
         writes: Writes::Frames,
         any: uvm_alloc::inputs::any,
         vary: None,
@@ -227,9 +249,89 @@ pub static CALLS: [Call; 9] = [
         when_checked: &[uvm_alloc::listed::EARLY],
         listed: uvm_alloc::listed::growing,
     },
+    Call {
+        name: "copy_in",
+        numbers: 3,
+        times: 1,
+        for_one_run: 3,
+        apart: true,
+        peopled: true,
+        writes: Writes::Nothing,
+        any: copies::inputs::any,
+        vary: None,
+        buffer: Some(copies::inputs::buffer),
+        ours: archive::copy_in,
+        model: |store, [root, va, ..], dst| calls::copy_in(store, root, va, dst),
+        may_run: copies::guard::in_one_page,
+        rust: original::copy_in,
+        refusals: &[1, 2, 3, 6, 11, 12, 15],
+        differences: &copies::listed::IN_ONE_PAGE,
+        when_checked: &[],
+        listed: copies::listed::reading,
+    },
+    Call {
+        name: "copy_out",
+        numbers: 3,
+        times: 1,
+        for_one_run: 2,
+        apart: true,
+        peopled: true,
+        writes: Writes::Frames,
+        any: copies::inputs::any,
+        vary: None,
+        buffer: Some(copies::inputs::buffer),
+        ours: archive::copy_out,
+        model: |store, [root, va, ..], src| calls::copy_out(store, root, va, src),
+        may_run: copies::guard::of_pool_frames,
+        rust: original::copy_out,
+        refusals: &[1, 2, 3, 6, 11, 12, 15],
+        differences: &copies::listed::OUT,
+        when_checked: &[],
+        listed: copies::listed::writing,
+    },
+    Call {
+        name: "copy_in_str",
+        numbers: 3,
+        times: 1,
+        for_one_run: 3,
+        apart: true,
+        peopled: true,
+        writes: Writes::Nothing,
+        any: copies::inputs::any,
+        vary: None,
+        buffer: Some(copies::inputs::buffer),
+        ours: archive::copy_in_str,
+        model: |store, [root, va, ..], dst| calls::copy_in_str(store, root, va, dst),
+        may_run: copies::guard::in_one_page,
+        rust: original::copy_in_str,
+        refusals: &[1, 2, 3, 6, 11, 12, 15],
+        differences: &copies::listed::IN_ONE_PAGE,
+        when_checked: &[],
+        listed: copies::listed::reading_str,
+    },
+    Call {
+        name: "uvm_copy",
+        numbers: 3,
+        times: 1,
+        for_one_run: 2,
+        apart: true,
+        peopled: true,
+        writes: Writes::Frames,
+        any: uvm_copy::inputs::any,
+        vary: None,
+        buffer: None,
+        ours: archive::uvm_copy,
+        model: |store, [parent, child, size, ..], _| calls::uvm_copy(store, parent, child, size),
+        may_run: uvm_copy::listed::may_run,
+        rust: original::uvm_copy,
+        refusals: &[1, 2, 3, 4, 6, 7, 11, 14, 15, 16, 17],
+        differences: &uvm_copy::listed::DIFFERENCES,
+        when_checked: &[],
+        listed: uvm_copy::listed::copying,
+    },
 ];
 
 /// Whether the first number is a root.
-fn is_root(store: &Store, [root, ..]: Numbers) -> bool {
+pub fn is_root(store: &Store, [root, ..]: Numbers) -> bool {
     store.table_marks.get(root as usize) == Some(&ROOT)
 }

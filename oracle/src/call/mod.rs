@@ -2,6 +2,7 @@
 
 pub mod batch;
 pub mod buffer;
+pub mod copies;
 pub mod inputs;
 pub mod judge;
 pub mod list;
@@ -9,12 +10,14 @@ pub mod listed;
 pub mod map;
 #[cfg_attr(not(feature = "rust"), path = "no_original.rs")]
 pub mod original;
+pub mod peopled;
 pub mod report;
 pub mod run;
 pub mod tally;
 pub mod tried;
 pub mod uvm_alloc;
 pub mod uvm_clear;
+pub mod uvm_copy;
 pub mod uvm_dealloc;
 pub mod uvm_init;
 pub mod uvm_unmap;

@@ -28,6 +28,7 @@ pub fn absent(_: Numbers, _: &mut [u8]) -> Answer {
     unreachable!("the Rust is not there")
 }
 
-pub use {absent as uvm_unmap, absent as uvmcreate};
 pub use {absent as as_satp, absent as map, absent as pgt_translate};
-pub use {absent as uvm_alloc, absent as uvm_clear, absent as uvm_dealloc, absent as uvm_init};
+pub use {absent as copy_in, absent as copy_in_str, absent as copy_out};
+pub use {absent as uvm_init, absent as uvm_unmap, absent as uvmcreate};
+pub use {absent as uvm_alloc, absent as uvm_clear, absent as uvm_copy, absent as uvm_dealloc};

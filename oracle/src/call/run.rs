@@ -35,16 +35,36 @@ impl Run {
         Run { build, tallies, stores: 0, well_formed: 0, written: 0, shown: Vec::new() }
     }
 
-    /// Whether each call was made this often, times its own number, where the Rust may be run.
+    /// Whether each call was made this often, times its own number, where the Rust may be run, or as often as it asks.
     pub fn has(&self, count: u64) -> bool {
-        self.tallies.iter().all(|tally| tally.runs >= count * tally.call.times)
+        self.tallies.iter().all(|tally| tally.runs * tally.call.for_one_run >= count * tally.call.times)
     }
 
     /// Makes each call this often, times its own number, on a store, and keeps what is different with what is said of it.
     pub fn judge(&mut self, tried: &mut Tried, inputs: &Inputs, calls: u64, random: &mut Random, store: &str) {
         self.stores += 1;
         self.well_formed += u64::from(tried.well_formed);
-        for (place, call) in CALLS.iter().enumerate() {
+        self.make_calls(false, tried, inputs, calls, random, store);
+        let mut random = random.clone();
+        let taken = tried.people(&mut random);
+        let own = taken.as_ref().map(|_| Inputs::of(&tried.before));
+        self.make_calls(true, tried, own.as_ref().unwrap_or(inputs), calls, &mut random, store);
+        if let Some(taken) = taken {
+            tried.take(&taken, true);
+        }
+    }
+
+    /// Makes the calls that have the store peopled, or those that have not.
+    fn make_calls(
+        &mut self,
+        peopled: bool,
+        tried: &mut Tried,
+        inputs: &Inputs,
+        calls: u64,
+        random: &mut Random,
+        store: &str,
+    ) {
+        for (place, call) in CALLS.iter().enumerate().filter(|(_, call)| call.peopled == peopled) {
             let mut copy = random.clone();
             let random = if call.apart { &mut copy } else { &mut *random };
             for _ in 0..calls * call.times {

@@ -3,7 +3,7 @@
 use crate::archive::{Numbers, Slices};
 use crate::call::buffer::Buffer;
 use crate::call::list::{Call, Writes};
-use crate::call::original;
+use crate::call::{original, peopled};
 use crate::model::Store;
 use crate::random::Random;
 
@@ -48,6 +48,15 @@ impl Tried {
         if well_formed {
             original::hold_words(store);
         }
+    }
+
+    /// Takes a store with pages and bytes in place of a well-formed one, and answers that one.
+    pub fn people(&mut self, random: &mut Random) -> Option<Store> {
+        let taken = self.well_formed.then(|| self.before.clone())?;
+        let mut store = taken.clone();
+        peopled::people(&mut store, random);
+        self.take(&store, true);
+        Some(taken)
     }
 
     /// Gives the store the other table marks that a call is to be made on.

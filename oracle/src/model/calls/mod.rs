@@ -2,24 +2,32 @@
 //! and each refusal comes before the first write.
 
 mod as_satp;
+mod copy_in;
+mod copy_in_str;
+mod copy_out;
 mod free;
 mod map;
 mod pgt_translate;
 mod set_up;
 mod uvm_alloc;
 mod uvm_clear;
+mod uvm_copy;
 mod uvm_dealloc;
 mod uvm_init;
 mod uvm_unmap;
 mod uvmcreate;
 
 pub use as_satp::as_satp;
+pub use copy_in::copy_in;
+pub use copy_in_str::copy_in_str;
+pub use copy_out::copy_out;
 pub use free::free;
 pub use map::map;
 pub use pgt_translate::pgt_translate;
 pub use set_up::set_up;
 pub use uvm_alloc::uvm_alloc;
 pub use uvm_clear::uvm_clear;
+pub use uvm_copy::uvm_copy;
 pub use uvm_dealloc::uvm_dealloc;
 pub use uvm_init::uvm_init;
 pub use uvm_unmap::uvm_unmap;
