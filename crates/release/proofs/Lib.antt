@@ -13,3 +13,6 @@ pub mod LeaveSame
 pub mod RestLaws
 pub mod CutLaws
 pub mod PageLaws
+pub mod PoolPages
+pub mod RootGoneLaws
+pub mod PartLaws

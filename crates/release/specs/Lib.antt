@@ -4,3 +4,4 @@ pub mod FreeTree
 pub mod Freed
 pub mod Parts
 pub mod PartsReady
+pub mod RootGone
