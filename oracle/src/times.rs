@@ -1,6 +1,6 @@
 //! Times proved calls against the Rust's own, on the same memory, in turns: `map` and `pgt_translate`, or `uvm_alloc` and
-//! `uvm_dealloc`. First both are compared on each case that is timed.
-//! usage: times map|grow
+//! `uvm_dealloc`; or `copy_in`, `copy_out` and `uvm_copy` against `memcpy`. First both are compared on each case that is timed.
+//! usage: times map|grow|copies
 
 #[allow(dead_code)] // declares the helpers too
 mod archive;
@@ -15,11 +15,12 @@ const VISITS: usize = 800;
 
 fn main() -> ExitCode {
     let arguments: Vec<String> = std::env::args().skip(1).collect();
-    let cases = match arguments.iter().map(String::as_str).collect::<Vec<_>>()[..] {
-        ["map"] => cases::of_map(),
-        ["grow"] => cases::of_grow(),
+    let (cases, other) = match arguments.iter().map(String::as_str).collect::<Vec<_>>()[..] {
+        ["map"] => (cases::of_map(), "the Rust"),
+        ["grow"] => (cases::of_grow(), "the Rust"),
+        ["copies"] => (cases::of_copies(), "memcpy"),
         _ => {
-            eprintln!("usage: times map|grow");
+            eprintln!("usage: times map|grow|copies");
             return ExitCode::from(2);
         }
     };
@@ -36,7 +37,7 @@ fn main() -> ExitCode {
             visits.push(Visit::new(case));
         }
     }
-    table::heading();
+    table::heading(other);
     for (case, visits) in visited {
         table::line(&case, &Times::of(visits));
     }

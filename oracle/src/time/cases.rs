@@ -1,13 +1,15 @@
-//! What is timed in a store with one root: ranges that are mapped, a page of it that is translated, and sizes from and to 0
-//! that it grows and shrinks by.
+//! What is timed in a store with one root: ranges that are mapped, a page of it that is translated, sizes from and to 0
+//! that it grows and shrinks by, and bytes from 0 on that are copied, to and from a buffer and to a second root.
 
 use super::held::Held;
-use super::{ours, rust};
+use super::{memcpy, ours, rust};
 use crate::archive::Reply;
 use std::fmt;
 
 /// The root.
 const ROOT: u64 = 0;
+/// The second root, where there is one.
+const CHILD: u64 = 1;
 /// No root in any store. A call for it is refused as soon as the store is checked.
 const NO_ROOT: u64 = 512;
 /// The number of that refusal.
@@ -32,6 +34,12 @@ pub enum Call {
     Grow,
     /// Shrinks it to none.
     Shrink,
+    /// Copies the bytes of the pages to the buffer.
+    In,
+    /// Copies the buffer to the bytes of the pages.
+    Out,
+    /// Copies the pages to the second root.
+    Child,
 }
 
 /// A call in a store of this many tables and frames, with this many pages, whose mapping takes as many tables.
@@ -43,7 +51,7 @@ pub struct Case {
     taken: u64,
 }
 
-/// One visit in this many goes to a case in which thousands of frames are written.
+/// One visit in this many goes to a case in which hundreds of frames or more are written.
 const FOR_ONE_LONG: usize = 8;
 
 /// A case of the largest store.
@@ -70,6 +78,12 @@ pub fn of_grow() -> Vec<Case> {
     of(Call::Grow).chain(of(Call::Shrink)).collect()
 }
 
+/// `copy_in`, `copy_out` and `uvm_copy` of 1 MiB, against the C library's `memcpy`.
+pub fn of_copies() -> Vec<Case> {
+    let few = |call| Case { call, tables: 8, frames: 512, pages: 256, taken: 2 };
+    [Call::In, Call::Out, Call::Child].into_iter().flat_map(|call| [large(call, (256, 2)), few(call)]).collect()
+}
+
 impl Case {
     /// The name of the call.
     pub fn name(&self) -> &'static str {
@@ -78,6 +92,9 @@ impl Case {
             Call::Translate => "pgt_translate",
             Call::Grow => "uvm_alloc",
             Call::Shrink => "uvm_dealloc",
+            Call::In => "copy_in",
+            Call::Out => "copy_out",
+            Call::Child => "uvm_copy",
         }
     }
 
@@ -85,6 +102,7 @@ impl Case {
     pub fn one_of(&self) -> usize {
         match self.call {
             Call::Grow | Call::Shrink if self.pages > 1000 => FOR_ONE_LONG,
+            Call::In | Call::Out | Call::Child => FOR_ONE_LONG,
             _ => 1,
         }
     }
@@ -92,8 +110,8 @@ impl Case {
     /// How many tables the call takes.
     pub fn taken(&self) -> u64 {
         match self.call {
-            Call::Map | Call::Grow => self.taken,
-            Call::Translate | Call::Shrink => 0,
+            Call::Map | Call::Grow | Call::Child => self.taken,
+            Call::Translate | Call::Shrink | Call::In | Call::Out => 0,
         }
     }
 
@@ -109,7 +127,8 @@ impl Case {
 
     /// A store for it.
     pub fn store(&self) -> Held {
-        Held::new(self.tables, self.frames)
+        let buffer = if matches!(self.call, Call::In | Call::Out) { self.size() as usize } else { 0 };
+        Held::new(self.tables, self.frames, buffer)
     }
 
     /// Makes the store what it is before a call.
@@ -118,7 +137,11 @@ impl Case {
         match self.call {
             Call::Map | Call::Grow => return,
             Call::Translate => ours::map(held, ROOT, &self.range()),
-            Call::Shrink => ours::uvm_alloc(held, ROOT, 0, self.size()),
+            Call::Shrink | Call::In | Call::Out => ours::uvm_alloc(held, ROOT, 0, self.size()),
+            Call::Child => {
+                ours::uvmcreate(held);
+                ours::uvm_alloc(held, ROOT, 0, self.size())
+            }
         };
         held.tell_free();
     }
@@ -140,16 +163,22 @@ impl Case {
             Call::Translate => ours::pgt_translate(held, root, self.range().va),
             Call::Grow => ours::uvm_alloc(held, root, 0, self.size()),
             Call::Shrink => ours::uvm_dealloc(held, root, self.size(), 0),
+            Call::In => ours::copy_in(held, root, 0),
+            Call::Out => ours::copy_out(held, root, 0),
+            Call::Child => ours::uvm_copy(held, root, CHILD, self.size()),
         }
     }
 
-    /// The Rust's: whether the pages are mapped, the address, or the size.
+    /// The Rust's: whether the pages are mapped, the address, or the size; for a copy `memcpy`.
     pub fn rust(&self, held: &mut Held) -> u64 {
         match self.call {
             Call::Map => rust::map(held, &self.range()).into(),
             Call::Translate => rust::pgt_translate(held, self.range().va),
             Call::Grow => rust::uvm_alloc(held, 0, self.size()),
             Call::Shrink => rust::uvm_dealloc(held, self.size(), 0),
+            Call::In => memcpy::copy_in(held, self.pages as usize),
+            Call::Out => memcpy::copy_out(held, self.pages as usize),
+            Call::Child => memcpy::uvm_copy(held, self.pages as usize),
         }
     }
 
@@ -159,17 +188,18 @@ impl Case {
             Call::Map => (self.taken, 1),
             Call::Translate => (self.range().pa, self.range().pa),
             Call::Grow => (self.size(), self.size()),
-            Call::Shrink => (0, 0),
+            Call::Shrink | Call::In | Call::Out | Call::Child => (0, 0),
         }
     }
 
-    /// Makes the store what it is before a call, with something in the frames.
+    /// Makes the store what it is before a call, with something in the frames and something else in the buffer.
     fn restore_used(&self, held: &mut Held) {
         self.restore(held);
-        held.bytes_mut().fill(9);
+        held.bytes_mut().iter_mut().zip((1..=251).cycle()).for_each(|(byte, other)| *byte = other);
+        held.buffer.iter_mut().zip((1..=241).cycle()).for_each(|(byte, other)| *byte = other);
     }
 
-    /// Whether both sides do what they are to: the same answer, and the same words and bytes.
+    /// Whether both sides do what they are to: the same answer, and the same words, bytes and buffer. `memcpy` knows no words.
     pub fn compare(&self) -> Result<(), &'static str> {
         let mut held = self.store();
         self.restore_used(&mut held);
@@ -180,16 +210,19 @@ impl Case {
         if self.ours(&mut held) != (Reply { number: 0, value }) {
             return Err("our answer is wrong");
         }
-        let (words, bytes) = (held.words().to_vec(), held.bytes().to_vec());
+        let (words, bytes, buffer) = (held.words().to_vec(), held.bytes().to_vec(), held.buffer.clone());
         self.restore_used(&mut held);
         if self.rust(&mut held) != rust {
             return Err("the Rust's answer is wrong");
         }
-        if held.words() != words {
+        if held.words() != words && self.call != Call::Child {
             return Err("the words of the tables differ");
         }
         if held.bytes() != bytes {
             return Err("the bytes of the frames differ");
+        }
+        if held.buffer != buffer {
+            return Err("the buffers differ");
         }
         Ok(())
     }

@@ -18,10 +18,11 @@ unsafe extern "C" {
     fn madvise(address: *mut c_void, length: usize, advice: c_int) -> c_int;
 }
 
-/// A store with one root, table 0. There is one at a time, since all of them have the same words.
+/// A store with one root, table 0, and a buffer. There is one at a time, since all of them have the same words.
 pub struct Held {
     pub table_marks: Vec<u32>,
     pub frame_marks: Vec<u32>,
+    pub buffer: Vec<u8>,
 }
 
 /// Makes the window ready, with its words in a large page where there is one. To be called once, before all else here.
@@ -32,9 +33,9 @@ pub fn open() {
 }
 
 impl Held {
-    /// A store of this many tables and frames, in which nothing but the root is taken.
-    pub fn new(tables: usize, frames: usize) -> Self {
-        let mut held = Held { table_marks: vec![0; tables], frame_marks: vec![0; frames] };
+    /// A store of this many tables and frames, in which nothing but the root is taken, and a buffer of this length.
+    pub fn new(tables: usize, frames: usize, buffer: usize) -> Self {
+        let mut held = Held { table_marks: vec![0; tables], frame_marks: vec![0; frames], buffer: vec![0; buffer] };
         held.restore();
         held
     }

@@ -3,11 +3,12 @@
 use super::cases::Case;
 use super::clock::Times;
 
-pub fn heading() {
-    println!("\nThe time of one call in microseconds, with its check and less it, and its ratio to the Rust's\n");
+/// The heading of a table in which the calls are timed against another side of this name.
+pub fn heading(other: &str) {
+    println!("\nThe time of one call in microseconds, with its check and less it, and its ratio to that of {other}\n");
     println!(
         "{:<14} {:>6} {:>7} {:>6} {:>9} {:>9} {:>10} {:>9} {:>9} {:>9} {:>9}",
-        "call", "tables", "pages", "taken", "ours", "check", "less check", "Rust", "less/Rust", "by best", "ours/Rust"
+        "call", "tables", "pages", "taken", "ours", "check", "less check", other, "less/it", "by best", "ours/it"
     );
 }
 
