@@ -13,6 +13,8 @@ pub mod TextReasons
 pub mod TextLaws
 pub mod FrameCopy
 pub mod PageBytes
+pub mod InOrder
+pub mod ChildPages
 pub mod ChildReasons
 pub mod Spared
 pub mod ChildLoop

@@ -1,8 +1,10 @@
 -- `copies::child::judge_child` meets its contract. Assumes nothing.
+use Prim.Native.Nat.{_/_}
 use borrow.Author.Needs.{needs}
 use mathlib.Core.Path.{sym, _∙_}
 use native.Mathlib.Omega.{arith}
-use Rattle.copies.proofs.ChildReasons.{by-parent, no-3, no-4, no-6, no-7, may-count, asked, no-11, no-14, no-15, by-fresh}
+use Rattle.copies.proofs.ChildPages.{no-11, no-14, no-15, by-fresh}
+use Rattle.copies.proofs.ChildReasons.{by-parent, no-3, no-4, no-6, no-7, may-count, asked, by-pages}
 use Rattle.store.specs.Store.{storeOf}
 use Rattle.copies.proofs.child.judge_child.Statement.{statement}
 use Rattle.copies.proofs.child.judge_child.Tie as tie
@@ -47,7 +49,11 @@ count-pages-requires c κs =
 returns-6 : tie.Need-returns-6
 returns-6 c =
     let a = c .before .before .before .before .before .before .before .before .before .before .before .before .before .args in
-    no-11 (storeOf (a .words .now) (a .tmarks .now) (a .bytes .now) (a .fmarks .now)) (a .parent) (a .child) (a .size) (c .before .before .before .before .before .before .before .before .judge-root .ensures .ready (c .before .before .before .before .before .before .before .if1 .left)) (sym (c .before .before .before .before .before .before .mark-at .ensures .0) ∙ c .before .before .before .before .before .if2 .left) (c .before .before .before .before .if3 .left) (c .before .before .before .if4 .left) (c .before .before .if5 .left) (c .before .count-pages .result) (c .before .count-pages .ensures) (c .if6 .taken)
+    let s = (storeOf (a .words .now) (a .tmarks .now) (a .bytes .now) (a .fmarks .now)) in
+    let r = c .before .before .before .before .before .before .before .before .judge-root .ensures .ready (c .before .before .before .before .before .before .before .if1 .left) in
+    let m = sym (c .before .before .before .before .before .before .mark-at .ensures .0) ∙ c .before .before .before .before .before .if2 .left in
+    by-pages s (a .parent) (a .child) (a .size) r m (c .before .before .before .before .if3 .left) (c .before .before .before .if4 .left) (c .before .before .if5 .left) 11
+    (no-11 s (a .parent) (a .child) (a .size / 4096) r (may-count s (a .parent) (a .child) (a .size) r m (c .before .before .before .before .if3 .left) (c .before .before .before .if4 .left) .2) (c .before .count-pages .result) (c .before .count-pages .ensures) (c .if6 .taken))
 
 count-pages-requires-2 : tie.Need-count-pages-requires-2
 count-pages-requires-2 c κs =
@@ -58,7 +64,11 @@ count-pages-requires-2 c κs =
 returns-7 : tie.Need-returns-7
 returns-7 c =
     let a = c .before .before .before .before .before .before .before .before .before .before .before .before .before .before .before .args in
-    no-14 (storeOf (a .words .now) (a .tmarks .now) (a .bytes .now) (a .fmarks .now)) (a .parent) (a .child) (a .size) (c .before .before .before .before .before .before .before .before .before .before .judge-root .ensures .ready (c .before .before .before .before .before .before .before .before .before .if1 .left)) (sym (c .before .before .before .before .before .before .before .before .mark-at .ensures .0) ∙ c .before .before .before .before .before .before .before .if2 .left) (c .before .before .before .before .before .before .if3 .left) (c .before .before .before .before .before .if4 .left) (c .before .before .before .before .if5 .left) (c .before .before .before .count-pages .result) (c .before .before .before .count-pages .ensures) (c .before .before .if6 .left) (c .before .count-pages2 .result) (c .before .count-pages2 .ensures) (c .if7 .taken)
+    let s = (storeOf (a .words .now) (a .tmarks .now) (a .bytes .now) (a .fmarks .now)) in
+    let r = c .before .before .before .before .before .before .before .before .before .before .judge-root .ensures .ready (c .before .before .before .before .before .before .before .before .before .if1 .left) in
+    let m = sym (c .before .before .before .before .before .before .before .before .mark-at .ensures .0) ∙ c .before .before .before .before .before .before .before .if2 .left in
+    by-pages s (a .parent) (a .child) (a .size) r m (c .before .before .before .before .before .before .if3 .left) (c .before .before .before .before .before .if4 .left) (c .before .before .before .before .if5 .left) 14
+    (no-14 s (a .parent) (a .child) (a .size / 4096) r (may-count s (a .parent) (a .child) (a .size) r m (c .before .before .before .before .before .before .if3 .left) (c .before .before .before .before .before .if4 .left) .2) (c .before .before .before .count-pages .result) (c .before .before .before .count-pages .ensures) (c .before .before .if6 .left) (c .before .count-pages2 .result) (c .before .count-pages2 .ensures) (c .if7 .taken))
 
 count-pages-requires-3 : tie.Need-count-pages-requires-3
 count-pages-requires-3 c κs =
@@ -69,7 +79,11 @@ count-pages-requires-3 c κs =
 returns-8 : tie.Need-returns-8
 returns-8 c =
     let a = c .before .before .before .before .before .before .before .before .before .before .before .before .before .before .before .before .before .args in
-    no-15 (storeOf (a .words .now) (a .tmarks .now) (a .bytes .now) (a .fmarks .now)) (a .parent) (a .child) (a .size) (c .before .before .before .before .before .before .before .before .before .before .before .before .judge-root .ensures .ready (c .before .before .before .before .before .before .before .before .before .before .before .if1 .left)) (sym (c .before .before .before .before .before .before .before .before .before .before .mark-at .ensures .0) ∙ c .before .before .before .before .before .before .before .before .before .if2 .left) (c .before .before .before .before .before .before .before .before .if3 .left) (c .before .before .before .before .before .before .before .if4 .left) (c .before .before .before .before .before .before .if5 .left) (c .before .before .before .before .before .count-pages .result) (c .before .before .before .before .before .count-pages .ensures) (c .before .before .before .before .if6 .left) (c .before .before .before .count-pages2 .result) (c .before .before .before .count-pages2 .ensures) (c .before .before .if7 .left) (c .before .count-pages3 .result) (c .before .count-pages3 .ensures) (c .if8 .taken)
+    let s = (storeOf (a .words .now) (a .tmarks .now) (a .bytes .now) (a .fmarks .now)) in
+    let r = c .before .before .before .before .before .before .before .before .before .before .before .before .judge-root .ensures .ready (c .before .before .before .before .before .before .before .before .before .before .before .if1 .left) in
+    let m = sym (c .before .before .before .before .before .before .before .before .before .before .mark-at .ensures .0) ∙ c .before .before .before .before .before .before .before .before .before .if2 .left in
+    by-pages s (a .parent) (a .child) (a .size) r m (c .before .before .before .before .before .before .before .before .if3 .left) (c .before .before .before .before .before .before .before .if4 .left) (c .before .before .before .before .before .before .if5 .left) 15
+    (no-15 s (a .parent) (a .child) (a .size / 4096) r (may-count s (a .parent) (a .child) (a .size) r m (c .before .before .before .before .before .before .before .before .if3 .left) (c .before .before .before .before .before .before .before .if4 .left) .2) (c .before .before .before .before .before .count-pages .result) (c .before .before .before .before .before .count-pages .ensures) (c .before .before .before .before .if6 .left) (c .before .before .before .count-pages2 .result) (c .before .before .before .count-pages2 .ensures) (c .before .before .if7 .left) (c .before .count-pages3 .result) (c .before .count-pages3 .ensures) (c .if8 .taken))
 
 judge-fresh-requires : tie.Need-judge-fresh-requires
 judge-fresh-requires c κs =
@@ -79,7 +93,11 @@ judge-fresh-requires c κs =
 returns-9 : tie.Need-returns-9
 returns-9 c =
     let a = c .before .before .before .before .before .before .before .before .before .before .before .before .before .before .before .before .before .before .args in
-    by-fresh (storeOf (a .words .now) (a .tmarks .now) (a .bytes .now) (a .fmarks .now)) (a .parent) (a .child) (a .size) (c .before .before .before .before .before .before .before .before .before .before .before .before .before .judge-root .ensures .ready (c .before .before .before .before .before .before .before .before .before .before .before .before .if1 .left)) (sym (c .before .before .before .before .before .before .before .before .before .before .before .mark-at .ensures .0) ∙ c .before .before .before .before .before .before .before .before .before .before .if2 .left) (c .before .before .before .before .before .before .before .before .before .if3 .left) (c .before .before .before .before .before .before .before .before .if4 .left) (c .before .before .before .before .before .before .before .if5 .left) (c .before .before .before .before .before .before .count-pages .result) (c .before .before .before .before .before .before .count-pages .ensures) (c .before .before .before .before .before .if6 .left) (c .before .before .before .before .count-pages2 .result) (c .before .before .before .before .count-pages2 .ensures) (c .before .before .before .if7 .left) (c .before .before .count-pages3 .result) (c .before .before .count-pages3 .ensures) (c .before .if8 .left) _ (c .judge-fresh .ensures)
+    let s = (storeOf (a .words .now) (a .tmarks .now) (a .bytes .now) (a .fmarks .now)) in
+    let r = c .before .before .before .before .before .before .before .before .before .before .before .before .before .judge-root .ensures .ready (c .before .before .before .before .before .before .before .before .before .before .before .before .if1 .left) in
+    let m = sym (c .before .before .before .before .before .before .before .before .before .before .before .mark-at .ensures .0) ∙ c .before .before .before .before .before .before .before .before .before .before .if2 .left in
+    by-pages s (a .parent) (a .child) (a .size) r m (c .before .before .before .before .before .before .before .before .before .if3 .left) (c .before .before .before .before .before .before .before .before .if4 .left) (c .before .before .before .before .before .before .before .if5 .left) _
+    (by-fresh s (a .parent) (a .child) (a .size / 4096) r (may-count s (a .parent) (a .child) (a .size) r m (c .before .before .before .before .before .before .before .before .before .if3 .left) (c .before .before .before .before .before .before .before .before .if4 .left) .2) (c .before .before .before .before .before .before .count-pages .result) (c .before .before .before .before .before .before .count-pages .ensures) (c .before .before .before .before .before .if6 .left) (c .before .before .before .before .count-pages2 .result) (c .before .before .before .before .count-pages2 .ensures) (c .before .before .before .if7 .left) (c .before .before .count-pages3 .result) (c .before .before .count-pages3 .ensures) (c .before .if8 .left) _ (c .judge-fresh .ensures))
 
 pub judge-child-spec : {M : Type 1} → statement M
 judge-child-spec =
