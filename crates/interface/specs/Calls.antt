@@ -19,6 +19,8 @@ use Rattle.copies.specs.InOut.{In, Out}
 use Rattle.copies.specs.Str.{Str}
 use Rattle.copies.specs.Child.{Child}
 use Rattle.copies.specs.declared.StrAnswer.{StrAnswer}
+use Rattle.release.specs.Free.{Free}
+use Rattle.release.specs.Parts.{UvmFree, SharedFree, ProcFree}
 use Rattle.interface.specs.Reply.{Replied, StrReplied}
 use Rattle.interface.specs.declared.Reply.{Reply}
 
@@ -66,3 +68,15 @@ StrReply s root va dst r dst′ = StrReplied (λ (a : StrAnswer). Str s root va 
 
 abbrev pub ChildReply : Store → ℕ → ℕ → ℕ → Reply → Store → Type 0
 ChildReply s parent child size r s′ = Replied (λ (a : Answer). Child s parent child size a s′) r
+
+abbrev pub FreeReply : Store → ℕ → Reply → Store → Type 0
+FreeReply s root r s′ = Replied (λ (a : Answer). Free s root a s′) r
+
+abbrev pub UvmFreeReply : Store → ℕ → ℕ → Reply → Store → Type 0
+UvmFreeReply s root size r s′ = Replied (λ (a : Answer). UvmFree root size s a s′) r
+
+abbrev pub SharedFreeReply : Store → ℕ → ℕ → Reply → Store → Type 0
+SharedFreeReply s root size r s′ = Replied (λ (a : Answer). SharedFree root size s a s′) r
+
+abbrev pub ProcFreeReply : Store → ℕ → ℕ → Reply → Store → Type 0
+ProcFreeReply s root size r s′ = Replied (λ (a : Answer). ProcFree root size s a s′) r

@@ -5,7 +5,7 @@ use super::replies::str_reply;
 use address::PhysicalAddress;
 use address::VirtualAddress;
 ghost use Rattle.store.specs.Store.{storeOf};
-ghost use Rattle.interface.specs.Calls.{SetUpReply, CheckReply, TranslateReply, SatpReply, CreateReply, MapReply, UnmapReply, ClearReply, InitReply, GrowReply, ShrinkReply, InReply, OutReply, StrReply, ChildReply};
+ghost use Rattle.interface.specs.Calls.{SetUpReply, CheckReply, TranslateReply, SatpReply, CreateReply, MapReply, UnmapReply, ClearReply, InitReply, GrowReply, ShrinkReply, InReply, OutReply, StrReply, ChildReply, FreeReply, UvmFreeReply, SharedFreeReply, ProcFreeReply};
 
 #[no_mangle]
 pub extern "C" fn ronakvesh_set_up(
@@ -258,4 +258,67 @@ pub extern "C" fn ronakvesh_uvm_copy(
         (storeOf (now (words .exit)) (now (tmarks .exit)) (now (bytes .exit)) (now (fmarks .exit))) ⌝ }
 {
     answer_reply(copies::uvm_copy(words, tmarks, bytes, fmarks, parent, child, size))
+}
+
+#[no_mangle]
+pub extern "C" fn ronakvesh_free(
+    words: &mut [u64],
+    tmarks: &mut [u32],
+    bytes: &[u8],
+    fmarks: &[u32],
+    root: u64,
+) -> Reply
+    ensures { λ r. ⌜ FreeReply
+        (storeOf (now (words .entry)) (now (tmarks .entry)) (now (bytes .entry)) (now (fmarks .entry))) root r
+        (storeOf (now (words .exit)) (now (tmarks .exit)) (now (bytes .entry)) (now (fmarks .entry))) ⌝ }
+{
+    answer_reply(release::free(words, tmarks, bytes, fmarks, root))
+}
+
+#[no_mangle]
+pub extern "C" fn ronakvesh_uvm_free(
+    words: &mut [u64],
+    tmarks: &mut [u32],
+    bytes: &[u8],
+    fmarks: &mut [u32],
+    root: u64,
+    size: u64,
+) -> Reply
+    ensures { λ r. ⌜ UvmFreeReply
+        (storeOf (now (words .entry)) (now (tmarks .entry)) (now (bytes .entry)) (now (fmarks .entry))) root size r
+        (storeOf (now (words .exit)) (now (tmarks .exit)) (now (bytes .entry)) (now (fmarks .exit))) ⌝ }
+{
+    answer_reply(release::uvm_free(words, tmarks, bytes, fmarks, root, size))
+}
+
+#[no_mangle]
+pub extern "C" fn ronakvesh_free_shared_user_pagetable(
+    words: &mut [u64],
+    tmarks: &mut [u32],
+    bytes: &[u8],
+    fmarks: &mut [u32],
+    root: u64,
+    size: u64,
+) -> Reply
+    ensures { λ r. ⌜ SharedFreeReply
+        (storeOf (now (words .entry)) (now (tmarks .entry)) (now (bytes .entry)) (now (fmarks .entry))) root size r
+        (storeOf (now (words .exit)) (now (tmarks .exit)) (now (bytes .entry)) (now (fmarks .exit))) ⌝ }
+{
+    answer_reply(release::free_shared_user_pagetable(words, tmarks, bytes, fmarks, root, size))
+}
+
+#[no_mangle]
+pub extern "C" fn ronakvesh_proc_free_pagetable(
+    words: &mut [u64],
+    tmarks: &mut [u32],
+    bytes: &[u8],
+    fmarks: &mut [u32],
+    root: u64,
+    size: u64,
+) -> Reply
+    ensures { λ r. ⌜ ProcFreeReply
+        (storeOf (now (words .entry)) (now (tmarks .entry)) (now (bytes .entry)) (now (fmarks .entry))) root size r
+        (storeOf (now (words .exit)) (now (tmarks .exit)) (now (bytes .entry)) (now (fmarks .exit))) ⌝ }
+{
+    answer_reply(release::proc_free_pagetable(words, tmarks, bytes, fmarks, root, size))
 }
