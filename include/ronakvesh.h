@@ -20,7 +20,9 @@
  *  15  a page to be copied whose frame is none of the pool
  *  16  more frames needed than free
  *  17  more tables needed than free
- * Where more than one applies, the smallest is given, save by ronakvesh_copy_in_str. */
+ *  18  a root to be freed with a page that is mapped
+ * Where more than one applies, the smallest is given, save by ronakvesh_copy_in_str and the calls made of parts, which are
+ * ronakvesh_uvm_free, ronakvesh_free_shared_user_pagetable and ronakvesh_proc_free_pagetable. */
 #ifndef RONAKVESH_H
 #define RONAKVESH_H
 
@@ -227,6 +229,33 @@ static inline bool ronakvesh_zero_was_met(ronakvesh_reply reply, size_t count) {
 ronakvesh_reply ronakvesh_uvm_copy(uint64_t *words, size_t word_count, uint32_t *table_marks, size_t tables,
                                    uint8_t *bytes, size_t byte_count, uint32_t *frame_marks, size_t frames,
                                    uint64_t parent, uint64_t child, uint64_t size);
+
+/* Gives back every table of a root, the root included, the tables below a table first; each becomes zero. The value is how
+ * many they were. 1, 2, 3, 18, and then nothing is written. */
+ronakvesh_reply ronakvesh_free(uint64_t *words, size_t word_count, uint32_t *table_marks, size_t tables,
+                               const uint8_t *bytes, size_t byte_count, const uint32_t *frame_marks, size_t frames,
+                               uint64_t root);
+
+/* The next three are made of parts. Each part is judged on what the parts before it would leave; the first that refuses
+ * gives its number, and then no part has written anything. The value is that of ronakvesh_free, which is the last part. */
+
+/* Takes the pages that size bytes from 0 on lie in out of a root, with freeing as ronakvesh_uvm_unmap does it, and then gives
+ * back its tables. 1, 2, 3; 6, 11, 13; 18. Size 0 has no unmapping part. */
+ronakvesh_reply ronakvesh_uvm_free(uint64_t *words, size_t word_count, uint32_t *table_marks, size_t tables,
+                                   const uint8_t *bytes, size_t byte_count, uint32_t *frame_marks, size_t frames,
+                                   uint64_t root, uint64_t size);
+
+/* As ronakvesh_uvm_free, after the page TRAMPOLINE, at 0x3F_FFFF_F000, has been unmapped without freeing. 1, 2, 3, 10, 11,
+ * 13; then 6, 11, 13; then 18. */
+ronakvesh_reply ronakvesh_free_shared_user_pagetable(uint64_t *words, size_t word_count, uint32_t *table_marks,
+                                                     size_t tables, const uint8_t *bytes, size_t byte_count,
+                                                     uint32_t *frame_marks, size_t frames, uint64_t root, uint64_t size);
+
+/* As ronakvesh_uvm_free, after the page TRAMPOLINE and then the page TRAPFRAME, at 0x3F_FFFF_E000, have been unmapped
+ * without freeing. 1, 2, 3, 10, 11, 13; then 10, 11, 13; then 6, 11, 13; then 18. */
+ronakvesh_reply ronakvesh_proc_free_pagetable(uint64_t *words, size_t word_count, uint32_t *table_marks, size_t tables,
+                                              const uint8_t *bytes, size_t byte_count, uint32_t *frame_marks,
+                                              size_t frames, uint64_t root, uint64_t size);
 
 #ifdef __cplusplus
 }
