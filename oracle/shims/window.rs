@@ -47,6 +47,12 @@ pub fn number(table: *const PageTable) -> usize {
     (table as usize - TABLES_AT) / PAGE
 }
 
+/// The words of the table of this number.
+pub fn words(number: usize) -> [u64; PAGE / 8] {
+    // SAFETY: the window is open and has the table.
+    unsafe { *table(number).cast() }
+}
+
 /// Writes a store's words and bytes to the window.
 pub fn write(words: &[u64], bytes: &[u8]) {
     check_lengths(words, bytes);

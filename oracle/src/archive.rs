@@ -157,4 +157,8 @@ calls! {
     copy_out = ronakvesh_copy_out(root, va; src);
     copy_in_str = ronakvesh_copy_in_str(root, va; dst);
     uvm_copy = ronakvesh_uvm_copy(parent, child, size);
+    free = ronakvesh_free(root);
+    uvm_free = ronakvesh_uvm_free(root, size);
+    free_shared_user_pagetable = ronakvesh_free_shared_user_pagetable(root, size);
+    proc_free_pagetable = ronakvesh_proc_free_pagetable(root, size);
 }

@@ -5,7 +5,8 @@ use crate::answer::{Answer, Build};
 use crate::archive::{self, Numbers, Reply, Slices, NO_NUMBERS};
 use crate::call::inputs::{self, Inputs};
 use crate::call::listed;
-use crate::call::{copies, map, original, uvm_alloc, uvm_clear, uvm_copy, uvm_dealloc, uvm_init, uvm_unmap, uvmcreate};
+use crate::call::{copies, map, original, release};
+use crate::call::{uvm_alloc, uvm_clear, uvm_copy, uvm_dealloc, uvm_init, uvm_unmap, uvmcreate};
 use crate::listed::Listed;
 use crate::model::calls;
 use crate::model::numbers::ROOT;
@@ -20,6 +21,17 @@ pub enum Writes {
     Tables,
     /// Words, bytes and both kinds of marks.
     Frames,
+}
+
+/// What is made of a well-formed store before the calls on it.
+#[derive(Clone, Copy, PartialEq, Eq)]
+pub enum On {
+    /// Nothing.
+    Grown,
+    /// It is given pages with bytes in them.
+    Peopled,
+    /// Its roots are made those of processes.
+    Processes,
 }
 
 /// What is listed for a call on a store, with its numbers and what the model says.
@@ -37,8 +49,8 @@ pub struct Call {
     /// Whether its random choices come from a copy of the stream, so that those for other calls and later stores do not
     /// depend on it.
     pub apart: bool,
-    /// Whether a well-formed store is given pages with bytes in them first.
-    pub peopled: bool,
+    /// What is made of a well-formed store first.
+    pub on: On,
     pub writes: Writes,
     /// Numbers to make it with.
     pub any: fn(&Inputs, &mut Random) -> Numbers,
@@ -68,14 +80,14 @@ impl Call {
 }
 
 /// Every call that is compared.
-pub static CALLS: [Call; 13] = [
+pub static CALLS: [Call; 17] = [
     Call {
         name: "pgt_translate",
         numbers: 2,
         times: 1,
         for_one_run: 1,
         apart: false,
-        peopled: false,
+        on: On::Grown,
         writes: Writes::Nothing,
         any: inputs::root_and_address,
         vary: None,
@@ -95,7 +107,7 @@ pub static CALLS: [Call; 13] = [
         times: 1,
         for_one_run: 1,
         apart: false,
-        peopled: false,
+        on: On::Grown,
         writes: Writes::Nothing,
         any: inputs::root,
         vary: None,
@@ -115,7 +127,7 @@ pub static CALLS: [Call; 13] = [
         times: 1,
         for_one_run: 1,
         apart: false,
-        peopled: false,
+        on: On::Grown,
         writes: Writes::Tables,
         any: |_, _| NO_NUMBERS,
         vary: Some(uvmcreate::vary),
@@ -135,7 +147,7 @@ pub static CALLS: [Call; 13] = [
         times: 2,
         for_one_run: 1,
         apart: false,
-        peopled: false,
+        on: On::Grown,
         writes: Writes::Tables,
         any: map::inputs::any,
         vary: None,
@@ -155,7 +167,7 @@ pub static CALLS: [Call; 13] = [
         times: 1,
         for_one_run: 1,
         apart: false,
-        peopled: false,
+        on: On::Grown,
         writes: Writes::Frames,
         any: uvm_unmap::inputs::any,
         vary: None,
@@ -175,7 +187,7 @@ pub static CALLS: [Call; 13] = [
         times: 1,
         for_one_run: 1,
         apart: false,
-        peopled: false,
+        on: On::Grown,
         writes: Writes::Tables,
         any: inputs::root_and_address,
         vary: None,
@@ -195,7 +207,7 @@ pub static CALLS: [Call; 13] = [
         times: 1,
         for_one_run: 1,
         apart: true,
-        peopled: false,
+        on: On::Grown,
         writes: Writes::Frames,
         any: uvm_dealloc::inputs::any,
         vary: None,
@@ -215,7 +227,7 @@ pub static CALLS: [Call; 13] = [
         times: 1,
         for_one_run: 1,
         apart: true,
-        peopled: false,
+        on: On::Grown,
         writes: Writes::Frames,
         any: uvm_init::any,
         vary: None,
@@ -235,7 +247,7 @@ pub static CALLS: [Call; 13] = [
         times: 1,
         for_one_run: 1,
         apart: true,
-        peopled: false,
+        on: On::Grown,
         writes: Writes::Frames,
         any: uvm_alloc::inputs::any,
         vary: None,
@@ -255,7 +267,7 @@ pub static CALLS: [Call; 13] = [
         times: 1,
         for_one_run: 3,
         apart: true,
-        peopled: true,
+        on: On::Peopled,
         writes: Writes::Nothing,
         any: copies::inputs::any,
         vary: None,
@@ -275,7 +287,7 @@ pub static CALLS: [Call; 13] = [
         times: 1,
         for_one_run: 2,
         apart: true,
-        peopled: true,
+        on: On::Peopled,
         writes: Writes::Frames,
         any: copies::inputs::any,
         vary: None,
@@ -295,7 +307,7 @@ pub static CALLS: [Call; 13] = [
         times: 1,
         for_one_run: 3,
         apart: true,
-        peopled: true,
+        on: On::Peopled,
         writes: Writes::Nothing,
         any: copies::inputs::any,
         vary: None,
@@ -315,7 +327,7 @@ pub static CALLS: [Call; 13] = [
         times: 1,
         for_one_run: 2,
         apart: true,
-        peopled: true,
+        on: On::Peopled,
         writes: Writes::Frames,
         any: uvm_copy::inputs::any,
         vary: None,
@@ -328,6 +340,86 @@ pub static CALLS: [Call; 13] = [
         differences: &uvm_copy::listed::DIFFERENCES,
         when_checked: &[],
         listed: uvm_copy::listed::copying,
+    },
+    Call {
+        name: "free",
+        numbers: 1,
+        times: 1,
+        for_one_run: 2,
+        apart: true,
+        on: On::Processes,
+        writes: Writes::Tables,
+        any: release::inputs::root,
+        vary: None,
+        buffer: None,
+        ours: archive::free,
+        model: |store, [root, ..], _| calls::free(store, root),
+        may_run: release::rust::free_may_run,
+        rust: original::free,
+        refusals: &[1, 2, 3, 18],
+        differences: &[release::listed::LEFT],
+        when_checked: &[],
+        listed: release::listed::freeing,
+    },
+    Call {
+        name: "uvm_free",
+        numbers: 2,
+        times: 1,
+        for_one_run: 2,
+        apart: true,
+        on: On::Processes,
+        writes: Writes::Frames,
+        any: release::inputs::of_any,
+        vary: None,
+        buffer: None,
+        ours: archive::uvm_free,
+        model: |store, [root, size, ..], _| calls::uvm_free(store, root, size),
+        may_run: release::rust::uvm_free_may_run,
+        rust: original::uvm_free,
+        refusals: &[1, 2, 3, 6, 11, 13, 18],
+        differences: &release::listed::OF_UVM_FREE,
+        when_checked: &[],
+        listed: release::listed::uvm_free,
+    },
+    Call {
+        name: "free_shared_user_pagetable",
+        numbers: 2,
+        times: 1,
+        for_one_run: 2,
+        apart: true,
+        on: On::Processes,
+        writes: Writes::Frames,
+        any: release::inputs::of_shared,
+        vary: None,
+        buffer: None,
+        ours: archive::free_shared_user_pagetable,
+        model: |store, [root, size, ..], _| calls::free_shared_user_pagetable(store, root, size),
+        may_run: release::rust::shared_may_run,
+        rust: original::free_shared_user_pagetable,
+        refusals: &[1, 2, 3, 6, 10, 11, 13, 18],
+        differences: &release::listed::OF_SHARED,
+        when_checked: &[],
+        listed: release::listed::shared,
+    },
+    Call {
+        name: "proc_free_pagetable",
+        numbers: 2,
+        times: 1,
+        for_one_run: 2,
+        apart: true,
+        on: On::Processes,
+        writes: Writes::Frames,
+        any: release::inputs::of_proc,
+        vary: None,
+        buffer: None,
+        ours: archive::proc_free_pagetable,
+        model: |store, [root, size, ..], _| calls::proc_free_pagetable(store, root, size),
+        may_run: release::rust::proc_may_run,
+        rust: original::proc_free_pagetable,
+        refusals: &[1, 2, 3, 6, 10, 11, 13, 18],
+        differences: &release::listed::OF_PROC,
+        when_checked: &[],
+        listed: release::listed::proc,
     },
 ];
 

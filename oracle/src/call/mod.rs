@@ -11,6 +11,8 @@ pub mod map;
 #[cfg_attr(not(feature = "rust"), path = "no_original.rs")]
 pub mod original;
 pub mod peopled;
+pub mod processes;
+pub mod release;
 pub mod report;
 pub mod run;
 pub mod tally;

@@ -32,3 +32,4 @@ pub use {absent as as_satp, absent as map, absent as pgt_translate};
 pub use {absent as copy_in, absent as copy_in_str, absent as copy_out};
 pub use {absent as uvm_init, absent as uvm_unmap, absent as uvmcreate};
 pub use {absent as uvm_alloc, absent as uvm_clear, absent as uvm_copy, absent as uvm_dealloc};
+pub use {absent as free, absent as free_shared_user_pagetable, absent as proc_free_pagetable, absent as uvm_free};

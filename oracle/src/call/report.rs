@@ -14,14 +14,14 @@ pub fn print(build: Option<Build>, run: &Run) {
         None => "The calls on a store and the model",
     };
     println!("{sides}: {} stores, {} of them well formed, from seed {SEED:#x}", run.stores, run.well_formed);
-    println!("{:14} {:>9} {:>9} {:>9} {:>9}  listed differences", "call", "calls", "answered", "the Rust", "equal");
+    println!("{:26} {:>9} {:>9} {:>9} {:>9}  listed differences", "call", "calls", "answered", "the Rust", "equal");
     for tally in &run.tallies {
         row(tally);
     }
     for tally in &run.tallies {
         let refusals = tally.call.refusals.iter().zip(&tally.refused);
         let refusals: Vec<String> = refusals.map(|(number, count)| format!("{count} with {number}")).collect();
-        println!("{:14} refused {}", tally.call.name, refusals.join(", "));
+        println!("{:26} refused {}", tally.call.name, refusals.join(", "));
     }
 }
 
@@ -31,7 +31,7 @@ fn row(tally: &Tally) {
     let Tally { call, calls, answered, equal, .. } = tally;
     let listed = tally.differences.iter().zip(&tally.listed).filter(|listed| *listed.1 > 0);
     let listed: Vec<String> = listed.map(|(name, count)| format!("{count} {name}")).collect();
-    let line = format!("{:14} {calls:>9} {answered:>9} {run:>9} {equal:>9}  {}", call.name, listed.join("; "));
+    let line = format!("{:26} {calls:>9} {answered:>9} {run:>9} {equal:>9}  {}", call.name, listed.join("; "));
     println!("{}", line.trim_end());
 }
 

@@ -3,10 +3,12 @@
 use crate::answer::Build;
 use crate::call::inputs::Inputs;
 use crate::call::judge::judge;
-use crate::call::list::CALLS;
+use crate::call::list::{On, CALLS};
 use crate::call::original;
+use crate::call::peopled::people;
+use crate::call::processes::make_processes;
 use crate::call::tally::Tally;
-use crate::call::tried::Tried;
+use crate::call::tried::{Change, Tried};
 use crate::random::Random;
 
 /// How many differences are printed.
@@ -14,6 +16,9 @@ const SHOWN: usize = 10;
 
 /// Each refusal and each listed difference must be met once in this many calls or more often.
 const CALLS_FOR_ONE: u64 = 1000;
+
+/// What is made of a store for which calls.
+const PREPARED: [(On, Change); 2] = [(On::Peopled, people), (On::Processes, make_processes)];
 
 pub struct Run {
     /// The build of the Rust, where it is there.
@@ -44,27 +49,21 @@ impl Run {
     pub fn judge(&mut self, tried: &mut Tried, inputs: &Inputs, calls: u64, random: &mut Random, store: &str) {
         self.stores += 1;
         self.well_formed += u64::from(tried.well_formed);
-        self.make_calls(false, tried, inputs, calls, random, store);
-        let mut random = random.clone();
-        let taken = tried.people(&mut random);
-        let own = taken.as_ref().map(|_| Inputs::of(&tried.before));
-        self.make_calls(true, tried, own.as_ref().unwrap_or(inputs), calls, &mut random, store);
-        if let Some(taken) = taken {
-            tried.take(&taken, true);
+        self.make_calls(On::Grown, tried, inputs, calls, random, store);
+        for (on, change) in PREPARED {
+            let mut random = random.clone();
+            let taken = tried.prepare(change, &mut random);
+            let own = taken.as_ref().map(|_| Inputs::of(&tried.before));
+            self.make_calls(on, tried, own.as_ref().unwrap_or(inputs), calls, &mut random, store);
+            if let Some(taken) = taken {
+                tried.take(&taken, true);
+            }
         }
     }
 
-    /// Makes the calls that have the store peopled, or those that have not.
-    fn make_calls(
-        &mut self,
-        peopled: bool,
-        tried: &mut Tried,
-        inputs: &Inputs,
-        calls: u64,
-        random: &mut Random,
-        store: &str,
-    ) {
-        for (place, call) in CALLS.iter().enumerate().filter(|(_, call)| call.peopled == peopled) {
+    /// Makes the calls that have this made of the store first.
+    fn make_calls(&mut self, on: On, tried: &mut Tried, inputs: &Inputs, calls: u64, random: &mut Random, store: &str) {
+        for (place, call) in CALLS.iter().enumerate().filter(|(_, call)| call.on == on) {
             let mut copy = random.clone();
             let random = if call.apart { &mut copy } else { &mut *random };
             for _ in 0..calls * call.times {

@@ -3,9 +3,12 @@
 use crate::archive::{Numbers, Slices};
 use crate::call::buffer::Buffer;
 use crate::call::list::{Call, Writes};
-use crate::call::{original, peopled};
+use crate::call::original;
 use crate::model::Store;
 use crate::random::Random;
+
+/// A change of a well-formed store, after which it is well formed.
+pub type Change = fn(&mut Store, &mut Random);
 
 /// A store as it was, and as the model and ours leave it. Where it is well formed, the Rust has it too.
 pub struct Tried {
@@ -50,11 +53,11 @@ impl Tried {
         }
     }
 
-    /// Takes a store with pages and bytes in place of a well-formed one, and answers that one.
-    pub fn people(&mut self, random: &mut Random) -> Option<Store> {
+    /// Takes what a change makes of a well-formed store in its place, and answers that one.
+    pub fn prepare(&mut self, change: Change, random: &mut Random) -> Option<Store> {
         let taken = self.well_formed.then(|| self.before.clone())?;
         let mut store = taken.clone();
-        peopled::people(&mut store, random);
+        change(&mut store, random);
         self.take(&store, true);
         Some(taken)
     }

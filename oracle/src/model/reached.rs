@@ -17,6 +17,13 @@ pub fn adds_up(store: &Store) -> bool {
         && reached.frames + free(&store.frame_marks) == store.frames()
 }
 
+/// How many tables are reached from a root, itself included.
+pub fn tables_of(store: &Store, root: usize) -> usize {
+    let mut reached = Reached { tables: 0, frames: 0 };
+    reached.count(store, root, 2);
+    reached.tables
+}
+
 struct Reached {
     tables: usize,
     frames: usize,

@@ -4,7 +4,7 @@ use crate::model::entries::{address, flags, pool_frame, V};
 use crate::model::judge::{self, refuse};
 use crate::model::numbers::{PAGE, PAGES};
 use crate::model::pool::give_back_frame;
-use crate::model::walk::mapped_word;
+use crate::model::walk::{is_mapped, mapped_word};
 use crate::model::Store;
 use std::ops::Range;
 
@@ -23,11 +23,11 @@ pub fn uvm_unmap(store: &mut Store, root: u64, va: u64, npages: u64, freeing: bo
 
 /// Takes pages below 2^38 out of a root: 10, 11, 13.
 pub fn leave(store: &mut Store, root: usize, pages: Range<u64>, freeing: bool) -> Result<(), u64> {
-    let number = pages.end - pages.start;
-    let mapped: Vec<usize> = pages.filter_map(|page| mapped_word(store, root, page)).collect();
     let frame_of = |store: &Store, word: usize| pool_frame(store, address(store.words[word]));
-    refuse(10, !freeing && mapped.iter().any(|&word| frame_of(store, word).is_some()))?;
-    refuse(11, (mapped.len() as u64) < number)?;
+    let is_own = |page: u64| mapped_word(store, root, page).is_some_and(|word| frame_of(store, word).is_some());
+    refuse(10, !freeing && pages.clone().any(is_own))?;
+    refuse(11, pages.clone().any(|page| !is_mapped(store, root, page)))?;
+    let mapped: Vec<usize> = pages.filter_map(|page| mapped_word(store, root, page)).collect();
     refuse(13, mapped.iter().any(|&word| flags(store.words[word]) == V))?;
     for word in mapped {
         if let Some(frame) = frame_of(store, word) {
