@@ -205,6 +205,57 @@ extern "C" {
         size: u64,
     ) -> Reply;
 
+    pub fn ronakvesh_free(
+        words: *mut u64,
+        words_length: usize,
+        tmarks: *mut u32,
+        tmarks_length: usize,
+        bytes: *const u8,
+        bytes_length: usize,
+        fmarks: *const u32,
+        fmarks_length: usize,
+        root: u64,
+    ) -> Reply;
+
+    pub fn ronakvesh_uvm_free(
+        words: *mut u64,
+        words_length: usize,
+        tmarks: *mut u32,
+        tmarks_length: usize,
+        bytes: *const u8,
+        bytes_length: usize,
+        fmarks: *mut u32,
+        fmarks_length: usize,
+        root: u64,
+        size: u64,
+    ) -> Reply;
+
+    pub fn ronakvesh_free_shared_user_pagetable(
+        words: *mut u64,
+        words_length: usize,
+        tmarks: *mut u32,
+        tmarks_length: usize,
+        bytes: *const u8,
+        bytes_length: usize,
+        fmarks: *mut u32,
+        fmarks_length: usize,
+        root: u64,
+        size: u64,
+    ) -> Reply;
+
+    pub fn ronakvesh_proc_free_pagetable(
+        words: *mut u64,
+        words_length: usize,
+        tmarks: *mut u32,
+        tmarks_length: usize,
+        bytes: *const u8,
+        bytes_length: usize,
+        fmarks: *mut u32,
+        fmarks_length: usize,
+        root: u64,
+        size: u64,
+    ) -> Reply;
+
     pub fn ronakvesh_pgt_translate(
         words: *const u64,
         words_length: usize,

@@ -3,7 +3,8 @@
 //! A [`Store`] is four slices: tables and their marks, frames and their marks. Its methods are the calls of Ronakvesh, which
 //! are written and proved in Rattle and linked from libinterface.a. Every call takes any bytes and any numbers. It answers,
 //! or it refuses with a [`Refusal`]; where several reasons apply it gives the one of the smallest number, of the first page
-//! that it cannot read in [`copy_in_str`](Store::copy_in_str), and no byte has changed.
+//! that it cannot read in [`copy_in_str`](Store::copy_in_str), of the first part that refuses in a call made of parts, as
+//! [`uvm_free`](Store::uvm_free) is, and no byte has changed.
 //!
 //! ```
 //! use ronakvesh::{PhysicalAddress, Store, VirtualAddress};
@@ -24,6 +25,7 @@ mod address;
 mod archive;
 mod copies;
 mod refusal;
+mod release;
 mod store;
 
 pub use address::{PhysicalAddress, VirtualAddress};

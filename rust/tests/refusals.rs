@@ -50,6 +50,10 @@ fn all_refuse(memory: &mut Memory, refusal: Refusal) {
     refuses(memory, refusal, |store| store.copy_out(0, VirtualAddress(0), &[]));
     refuses(memory, refusal, |store| store.copy_in_str(0, VirtualAddress(0), &mut []));
     refuses(memory, refusal, |store| store.uvm_copy(0, 0, 0));
+    refuses(memory, refusal, |store| store.free(0));
+    refuses(memory, refusal, |store| store.uvm_free(0, 0));
+    refuses(memory, refusal, |store| store.free_shared_user_pagetable(0, 0));
+    refuses(memory, refusal, |store| store.proc_free_pagetable(0, 0));
     refuses(memory, refusal, |store| find(store, 0, 0));
     refuses(memory, refusal, |store| store.as_satp(0));
 }
@@ -104,6 +108,10 @@ fn no_root() {
         refuses(&mut memory, Refusal::NoRoot, |store| store.copy_in_str(root, VirtualAddress(0), &mut []));
         refuses(&mut memory, Refusal::NoRoot, |store| store.uvm_copy(root, 0, 0));
         refuses(&mut memory, Refusal::NoRoot, |store| store.uvm_copy(0, root, 0));
+        refuses(&mut memory, Refusal::NoRoot, |store| store.free(root));
+        refuses(&mut memory, Refusal::NoRoot, |store| store.uvm_free(root, 0));
+        refuses(&mut memory, Refusal::NoRoot, |store| store.free_shared_user_pagetable(root, 0));
+        refuses(&mut memory, Refusal::NoRoot, |store| store.proc_free_pagetable(root, 0));
         refuses(&mut memory, Refusal::NoRoot, |store| find(store, root, 0));
         refuses(&mut memory, Refusal::NoRoot, |store| store.as_satp(root));
     }
