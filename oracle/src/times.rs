@@ -1,6 +1,7 @@
 //! Times proved calls against the Rust's own, on the same memory, in turns: `map` and `pgt_translate`, or `uvm_alloc` and
-//! `uvm_dealloc`; or `copy_in`, `copy_out` and `uvm_copy` against `memcpy`. First both are compared on each case that is timed.
-//! usage: times map|grow|copies
+//! `uvm_dealloc`, or `free`; or `copy_in`, `copy_out` and `uvm_copy` against `memcpy`. First both are compared on each case
+//! that is timed.
+//! usage: times map|grow|copies|release
 
 #[allow(dead_code)] // declares the helpers too
 mod archive;
@@ -19,8 +20,9 @@ fn main() -> ExitCode {
         ["map"] => (cases::of_map(), "the Rust"),
         ["grow"] => (cases::of_grow(), "the Rust"),
         ["copies"] => (cases::of_copies(), "memcpy"),
+        ["release"] => (cases::of_release(), "the Rust"),
         _ => {
-            eprintln!("usage: times map|grow|copies");
+            eprintln!("usage: times map|grow|copies|release");
             return ExitCode::from(2);
         }
     };

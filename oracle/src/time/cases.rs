@@ -1,5 +1,6 @@
 //! What is timed in a store with one root: ranges that are mapped, a page of it that is translated, sizes from and to 0
-//! that it grows and shrinks by, and bytes from 0 on that are copied, to and from a buffer and to a second root.
+//! that it grows and shrinks by, bytes from 0 on that are copied, to and from a buffer and to a second root, and the root with
+//! its tables, which is freed.
 
 use super::held::Held;
 use super::{memcpy, ours, rust};
@@ -40,6 +41,8 @@ pub enum Call {
     Out,
     /// Copies the pages to the second root.
     Child,
+    /// Gives back the root and the tables below it, which have no page.
+    Free,
 }
 
 /// A call in a store of this many tables and frames, with this many pages, whose mapping takes as many tables.
@@ -84,6 +87,12 @@ pub fn of_copies() -> Vec<Case> {
     [Call::In, Call::Out, Call::Child].into_iter().flat_map(|call| [large(call, (256, 2)), few(call)]).collect()
 }
 
+/// `free` of a root with 1, 100 and 500 tables.
+pub fn of_release() -> Vec<Case> {
+    let of = |(tables, frames, taken)| Case { call: Call::Free, tables, frames, pages: 0, taken };
+    [(512, 4096, 0), (512, 4096, 99), (512, 4096, 499), (8, 64, 2)].map(of).into()
+}
+
 impl Case {
     /// The name of the call.
     pub fn name(&self) -> &'static str {
@@ -95,6 +104,7 @@ impl Case {
             Call::In => "copy_in",
             Call::Out => "copy_out",
             Call::Child => "uvm_copy",
+            Call::Free => "free",
         }
     }
 
@@ -107,11 +117,12 @@ impl Case {
         }
     }
 
-    /// How many tables the call takes.
+    /// How many tables the call takes, or gives back.
     pub fn taken(&self) -> u64 {
         match self.call {
             Call::Map | Call::Grow | Call::Child => self.taken,
             Call::Translate | Call::Shrink | Call::In | Call::Out => 0,
+            Call::Free => 1 + self.taken,
         }
     }
 
@@ -142,6 +153,7 @@ impl Case {
                 ours::uvmcreate(held);
                 ours::uvm_alloc(held, ROOT, 0, self.size())
             }
+            Call::Free => return held.hang(self.taken as usize),
         };
         held.tell_free();
     }
@@ -166,10 +178,11 @@ impl Case {
             Call::In => ours::copy_in(held, root, 0),
             Call::Out => ours::copy_out(held, root, 0),
             Call::Child => ours::uvm_copy(held, root, CHILD, self.size()),
+            Call::Free => ours::free(held, root),
         }
     }
 
-    /// The Rust's: whether the pages are mapped, the address, or the size; for a copy `memcpy`.
+    /// The Rust's: whether the pages are mapped, the address, or the size, and 0 for `free`; for a copy `memcpy`.
     pub fn rust(&self, held: &mut Held) -> u64 {
         match self.call {
             Call::Map => rust::map(held, &self.range()).into(),
@@ -179,6 +192,7 @@ impl Case {
             Call::In => memcpy::copy_in(held, self.pages as usize),
             Call::Out => memcpy::copy_out(held, self.pages as usize),
             Call::Child => memcpy::uvm_copy(held, self.pages as usize),
+            Call::Free => rust::free(held),
         }
     }
 
@@ -189,6 +203,7 @@ impl Case {
             Call::Translate => (self.range().pa, self.range().pa),
             Call::Grow => (self.size(), self.size()),
             Call::Shrink | Call::In | Call::Out | Call::Child => (0, 0),
+            Call::Free => (self.taken(), 0),
         }
     }
 

@@ -49,6 +49,15 @@ impl Held {
         self.tell_free();
     }
 
+    /// Hangs this many tables below the root, from table 1 on: that at its entry 0, and the others below that one.
+    pub fn hang(&mut self, tables: usize) {
+        for table in 1..=tables {
+            let word = if table == 1 { 0 } else { ENTRIES + table - 2 };
+            self.words_mut()[word] = 0x4000_0000 + 1024 * table as u64 + 1;
+            self.table_marks[table] = word as u32 + 2;
+        }
+    }
+
     /// Has the Rust know which of its pages are free.
     pub fn tell_free(&self) {
         boxed::set_free(&self.table_marks, &self.frame_marks);

@@ -52,6 +52,12 @@ pub fn uvm_copy(held: &mut Held, parent: u64, child: u64, size: u64) -> Reply {
     unsafe { archive::uvm_copy(lent(held), [parent, child, size, 0, 0]) }
 }
 
+/// `free`.
+pub fn free(held: &mut Held, root: u64) -> Reply {
+    // SAFETY: as above.
+    unsafe { archive::free(lent(held), [root, 0, 0, 0, 0]) }
+}
+
 /// The four slices of a store, and its buffer.
 fn lent(held: &mut Held) -> Slices {
     Slices {
