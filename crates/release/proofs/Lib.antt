@@ -16,3 +16,5 @@ pub mod PageLaws
 pub mod PoolPages
 pub mod RootGoneLaws
 pub mod PartLaws
+pub mod OtherTables
+pub mod RootTables
