@@ -18,3 +18,4 @@ pub mod RootGoneLaws
 pub mod PartLaws
 pub mod OtherTables
 pub mod RootTables
+pub mod Lifetime

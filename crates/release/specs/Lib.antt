@@ -5,3 +5,4 @@ pub mod Freed
 pub mod Parts
 pub mod PartsReady
 pub mod RootGone
+pub mod Lifetime
