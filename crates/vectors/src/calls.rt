@@ -7,6 +7,7 @@ use super::replies::number_reply;
 use super::rows;
 use address::PhysicalAddress;
 use address::VirtualAddress;
+use copies::StrAnswer;
 use page_table_entry::PageTableEntry;
 use store::Answer;
 
@@ -47,22 +48,88 @@ fn loaded(
     tmarks: &mut [u32],
     bytes: &mut [u8],
     fmarks: &mut [u32],
+    lent: &[u8],
 ) -> Answer {
     let root = rows::argument(row, 0);
-    let length = rows::argument(row, 1) as usize;
-    let mut source = [0u8; 8192];
-    lent::fill(&mut source);
-    let src = lent::first(&source, length);
+    let src = lent::first(lent, rows::argument(row, 1) as usize);
     grow::uvm_init(words, tmarks, bytes, fmarks, root, src)
 }
 
-// What the call that takes pages out or brings fresh frames says, and writes; where it is none of the others, it is uvm_alloc.
+// What copy_out says at a row, and writes.
+fn copied_out(
+    row: usize,
+    words: &[u64],
+    tmarks: &[u32],
+    bytes: &mut [u8],
+    fmarks: &[u32],
+    lent: &[u8],
+) -> Answer {
+    let root = rows::argument(row, 0);
+    let va = VirtualAddress(rows::argument(row, 1));
+    let src = lent::first(lent, rows::argument(row, 2) as usize);
+    copies::copy_out(words, tmarks, bytes, fmarks, root, va, src)
+}
+
+// The bytes written, without whether a zero was met.
+fn string_answer(a: StrAnswer) -> Answer {
+    match a {
+        StrAnswer::Read(n, _) => Answer::Done(n),
+        StrAnswer::Refused(no) => Answer::Refused(no),
+    }
+}
+
+// What copy_in or copy_in_str says at a row, and writes to the first of the lent bytes.
+fn copied_in(
+    row: usize,
+    words: &[u64],
+    tmarks: &[u32],
+    bytes: &[u8],
+    fmarks: &[u32],
+    lent: &mut [u8],
+) -> Answer {
+    let root = rows::argument(row, 0);
+    let va = VirtualAddress(rows::argument(row, 1));
+    let n = walk::lesser(rows::argument(row, 2) as usize, lent.len());
+    let dst = &mut lent[..n];
+    if rows::call(row) == 13 {
+        return copies::copy_in(words, tmarks, bytes, fmarks, root, va, dst);
+    }
+    string_answer(copies::copy_in_str(words, tmarks, bytes, fmarks, root, va, dst))
+}
+
+// What the call that copies says, and writes; where it is none of the others, it is uvm_copy.
+fn on_bytes(
+    row: usize,
+    words: &mut [u64],
+    tmarks: &mut [u32],
+    bytes: &mut [u8],
+    fmarks: &mut [u32],
+    lent: &mut [u8],
+) -> Answer {
+    let call = rows::call(row);
+    if call == 13 {
+        return copied_in(row, words, tmarks, bytes, fmarks, lent);
+    }
+    if call == 14 {
+        return copied_out(row, words, tmarks, bytes, fmarks, lent);
+    }
+    if call == 15 {
+        return copied_in(row, words, tmarks, bytes, fmarks, lent);
+    }
+    let parent = rows::argument(row, 0);
+    let child = rows::argument(row, 1);
+    let size = rows::argument(row, 2);
+    copies::uvm_copy(words, tmarks, bytes, fmarks, parent, child, size)
+}
+
+// What the call that takes pages out or brings fresh frames says, and writes; where it is none of these, it copies.
 fn on_pages(
     row: usize,
     words: &mut [u64],
     tmarks: &mut [u32],
     bytes: &mut [u8],
     fmarks: &mut [u32],
+    lent: &mut [u8],
 ) -> Answer {
     let call = rows::call(row);
     let root = rows::argument(row, 0);
@@ -80,9 +147,12 @@ fn on_pages(
         return grow::uvm_dealloc(words, tmarks, bytes, fmarks, root, first, second);
     }
     if call == 11 {
-        return loaded(row, words, tmarks, bytes, fmarks);
+        return loaded(row, words, tmarks, bytes, fmarks, lent);
     }
-    grow::uvm_alloc(words, tmarks, bytes, fmarks, root, first, second)
+    if call == 12 {
+        return grow::uvm_alloc(words, tmarks, bytes, fmarks, root, first, second);
+    }
+    on_bytes(row, words, tmarks, bytes, fmarks, lent)
 }
 
 // What the call on the store says, and writes; 0 is a fresh store.
@@ -92,6 +162,7 @@ fn on_store(
     tmarks: &mut [u32],
     bytes: &mut [u8],
     fmarks: &mut [u32],
+    lent: &mut [u8],
 ) -> Answer {
     let call = rows::call(row);
     let root = rows::argument(row, 0);
@@ -111,19 +182,21 @@ fn on_store(
     if call == 7 {
         return walk::as_satp(words, tmarks, bytes, fmarks, root);
     }
-    on_pages(row, words, tmarks, bytes, fmarks)
+    on_pages(row, words, tmarks, bytes, fmarks, lent)
 }
 
-// What the call of a row says, and writes.
+// What the call of a row says, and writes, with the same bytes lent to each.
 pub fn made(
     row: usize,
     words: &mut [u64],
     tmarks: &mut [u32],
     bytes: &mut [u8],
     fmarks: &mut [u32],
+    lent: &mut [u8],
 ) -> Reply {
+    lent::fill(lent);
     if rows::is_helper(row) {
         return helper(row);
     }
-    answer_reply(on_store(row, words, tmarks, bytes, fmarks))
+    answer_reply(on_store(row, words, tmarks, bytes, fmarks, lent))
 }

@@ -1,4 +1,4 @@
-// A number that stands for the table words and the frame bytes.
+// A number that stands for the table words, the frame bytes and the bytes that are lent.
 
 // The largest prime below 2^32.
 const PRIME: u64 = 0xFFFF_FFFB;
@@ -38,6 +38,6 @@ fn with_bytes(digest: u64, bytes: &[u8]) -> u64 {
 }
 
 // From 1 on, each word and then each byte: the digest times FACTOR, and the word or byte, modulo PRIME.
-pub fn digest(words: &[u64], bytes: &[u8]) -> u64 {
-    with_bytes(with_words(1, words), bytes)
+pub fn digest(words: &[u64], bytes: &[u8], lent: &[u8]) -> u64 {
+    with_bytes(with_bytes(with_words(1, words), bytes), lent)
 }

@@ -1,4 +1,4 @@
-// The source that uvm_init is lent.
+// The bytes that a call is lent beside the store.
 
 // Byte i is i modulo 251, and 1.
 pub fn fill(source: &mut [u8]) {
@@ -9,7 +9,7 @@ pub fn fill(source: &mut [u8]) {
     }
 }
 
-// The first bytes of a source, or all where there are no more.
+// The first of them, or all where there are no more.
 pub fn first(source: &[u8], length: usize) -> &[u8] {
     if length < source.len() {
         return &source[..length];

@@ -13,7 +13,8 @@ fn main() {
     let mut tmarks = [0u32; 8];
     let mut bytes = [0u8; 32768];
     let mut fmarks = [0u32; 8];
-    let found = replay::all(&mut words, &mut tmarks, &mut bytes, &mut fmarks);
+    let mut lent = [0u8; 8192];
+    let found = replay::all(&mut words, &mut tmarks, &mut bytes, &mut fmarks, &mut lent);
     say::count(found.equal, b" answers as the Rust's\n");
     say::count(
         found.listed,

@@ -28,9 +28,10 @@ fn kind(
     tmarks: &mut [u32],
     bytes: &mut [u8],
     fmarks: &mut [u32],
+    lent: &mut [u8],
 ) -> u64 {
-    let reply = calls::made(row, words, tmarks, bytes, fmarks);
-    let after = digest::digest(words, bytes);
+    let reply = calls::made(row, words, tmarks, bytes, fmarks, lent);
+    let after = digest::digest(words, bytes, lent);
     if !rows::agrees(row, reply, after) {
         say::wrong(row, reply, after);
         return WRONG;
@@ -56,13 +57,19 @@ fn counted(n: u64, so: bool) -> u64
 }
 
 // Every row in turn; those of a fresh store are not counted.
-pub fn all(words: &mut [u64], tmarks: &mut [u32], bytes: &mut [u8], fmarks: &mut [u32]) -> Found {
+pub fn all(
+    words: &mut [u64],
+    tmarks: &mut [u32],
+    bytes: &mut [u8],
+    fmarks: &mut [u32],
+    lent: &mut [u8],
+) -> Found {
     let mut equal = 0;
     let mut listed = 0;
     let mut wrong = 0;
     let mut row = 0;
     while row < list::ROWS {
-        let kind = kind(row, words, tmarks, bytes, fmarks);
+        let kind = kind(row, words, tmarks, bytes, fmarks, lent);
         equal = counted(equal, kind == EQUAL);
         listed = counted(listed, kind == LISTED);
         wrong = counted(wrong, kind == WRONG);

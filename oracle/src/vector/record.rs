@@ -25,7 +25,7 @@ pub struct Row {
 
 /// The row of each chosen call, in turn; or what is neither equal nor listed.
 pub fn rows(chosen: &[Chosen]) -> Result<Vec<Row>, String> {
-    let mut recorder = Recorder { helpers: helpers(), store: Store::zeros(TABLES, FRAMES) };
+    let mut recorder = Recorder { helpers: helpers(), store: Store::zeros(TABLES, FRAMES), lent: lent::bytes() };
     chosen.iter().map(|&made| recorder.row(made)).collect()
 }
 
@@ -37,10 +37,13 @@ struct Recorder {
     helpers: Vec<Helper>,
     /// The store that the calls so far have made.
     store: Store,
+    /// The lent bytes as the last call has left them.
+    lent: Vec<u8>,
 }
 
 impl Recorder {
     fn row(&mut self, made: Chosen) -> Result<Row, String> {
+        self.lent = lent::bytes();
         let (rust, listed) = match made {
             Chosen::Fresh => {
                 self.store = Store::zeros(TABLES, FRAMES);
@@ -57,7 +60,7 @@ impl Recorder {
             Some(Listed { ours: Answer::Refused(number, 0), rust: foreseen, .. }) if foreseen == rust => Some(number),
             Some(Listed { name, .. }) => return Err(format!("{made}: the Rust answers {rust}, not as listed: {name}")),
         };
-        Ok(Row { made, rust, listed, digest: digest(&self.store) })
+        Ok(Row { made, rust, listed, digest: digest(&self.store, &self.lent) })
     }
 
     /// Has the Rust make a call. Where nothing is listed it must answer and write what the model does.
@@ -67,13 +70,16 @@ impl Recorder {
         original::hold_bytes(&self.store);
         original::hold_words(&self.store);
         let mut after = self.store.clone();
-        let mut lent = call.buffer.map_or(Vec::new(), |_| lent::bytes(numbers[1]));
-        let model = (call.model)(&mut after, numbers, &mut lent);
-        let rust = (call.rust)(numbers, &mut lent);
+        let length = call.buffer.map_or(0, |_| lent::length(numbers, call.numbers));
+        let mut lent = self.lent.clone();
+        let model = (call.model)(&mut after, numbers, &mut self.lent[..length]);
+        let rust = (call.rust)(numbers, &mut lent[..length]);
         let listed = (call.listed)(Build::Wrapping, &self.store, numbers, model);
         let answer = model.map_or_else(|number| Answer::Refused(number, 0), Answer::Done);
-        if listed.is_none() && (rust != answer || !original::holds(&after)) {
-            return Err(format!("{name}: the Rust answers {rust}, the model {answer}, or other pages are left"));
+        if listed.is_none() && (rust != answer || !original::holds(&after) || lent != self.lent) {
+            return Err(format!(
+                "{name}: the Rust answers {rust}, the model {answer}, or other pages or lent bytes are left"
+            ));
         }
         self.store = after;
         Ok((rust, listed))

@@ -14,8 +14,9 @@ pub fn text(rows: &[Row]) -> String {
     let mut text = format!(
         "// Made by `oracle/run vectors`, which has the Rust, wrapping, make calls on stores of {TABLES} tables and {FRAMES} frames.
 // A row: which call (0 a fresh store, then {}, {},
-// {}), its five numbers, what the Rust answers (0 a value, 1 None, 2 a panic), that
-// value, the refusal where docs/DIFFERENCES.md lists another answer here, and the digest of the store afterwards.
+// {}),
+// its five numbers, what the Rust answers (0 a value, 1 None, 2 a panic), that value, the refusal where docs/DIFFERENCES.md lists
+// another answer here, and the digest of the store and the lent bytes afterwards.
 pub const ROWS: usize = {count};
 
 pub const COLUMNS: usize = {COLUMNS};

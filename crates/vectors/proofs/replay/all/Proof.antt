@@ -8,13 +8,13 @@ use Rattle.vectors.proofs.replay.all.Statement.{statement}
 use Rattle.vectors.proofs.replay.all.Tie as tie
 
 abbrev Inv-loop : tie.InvT-loop
-Inv-loop words₀ tmarks₀ bytes₀ fmarks₀ equal₀ listed₀ wrong₀ row₀ words tmarks bytes fmarks equal listed wrong row =
+Inv-loop words₀ tmarks₀ bytes₀ fmarks₀ lent₀ equal₀ listed₀ wrong₀ row₀ words tmarks bytes fmarks lent equal listed wrong row =
     (equal ≤ row) × (listed ≤ row) × (wrong ≤ row)
     × (length words ≡ length words₀) × (length tmarks ≡ length tmarks₀)
-    × (length bytes ≡ length bytes₀) × (length fmarks ≡ length fmarks₀)
+    × (length bytes ≡ length bytes₀) × (length fmarks ≡ length fmarks₀) × (length lent ≡ length lent₀)
 
 abbrev μ-loop : tie.MeasureT-loop
-μ-loop words₀ tmarks₀ bytes₀ fmarks₀ equal₀ listed₀ wrong₀ row₀ words tmarks bytes fmarks equal listed wrong row =
+μ-loop words₀ tmarks₀ bytes₀ fmarks₀ lent₀ equal₀ listed₀ wrong₀ row₀ words tmarks bytes fmarks lent equal listed wrong row =
     2 ^ 64 - row
 
 loop-holds : tie.Need-loop-holds Inv-loop μ-loop
@@ -53,6 +53,9 @@ same-length-3 c = search needs
 same-length-4 : tie.Need-same-length-4 Inv-loop μ-loop
 same-length-4 c = search needs
 
+same-length-5 : tie.Need-same-length-5 Inv-loop μ-loop
+same-length-5 c = search needs
+
 returns : tie.Need-returns Inv-loop μ-loop
 returns c = search needs
 
@@ -74,4 +77,5 @@ all-spec =
     same-length-2
     same-length-3
     same-length-4
+    same-length-5
     returns)
