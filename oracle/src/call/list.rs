@@ -19,6 +19,8 @@ pub enum Writes {
     Nothing,
     /// Words and table marks.
     Tables,
+    /// Words and both kinds of marks.
+    Marks,
     /// Words, bytes and both kinds of marks.
     Frames,
 }
@@ -368,7 +370,7 @@ pub static CALLS: [Call; 17] = [
         for_one_run: 2,
         apart: true,
         on: On::Processes,
-        writes: Writes::Frames,
+        writes: Writes::Marks,
         any: release::inputs::of_any,
         vary: None,
         buffer: None,
@@ -388,7 +390,7 @@ pub static CALLS: [Call; 17] = [
         for_one_run: 2,
         apart: true,
         on: On::Processes,
-        writes: Writes::Frames,
+        writes: Writes::Marks,
         any: release::inputs::of_shared,
         vary: None,
         buffer: None,
@@ -408,7 +410,7 @@ pub static CALLS: [Call; 17] = [
         for_one_run: 2,
         apart: true,
         on: On::Processes,
-        writes: Writes::Frames,
+        writes: Writes::Marks,
         any: release::inputs::of_proc,
         vary: None,
         buffer: None,

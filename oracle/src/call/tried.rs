@@ -114,7 +114,7 @@ impl Tried {
     pub fn is_rusts(&self, writes: Writes) -> bool {
         let pages = match writes {
             Writes::Nothing => true,
-            Writes::Tables => original::holds_words(&self.ours),
+            Writes::Tables | Writes::Marks => original::holds_words(&self.ours),
             Writes::Frames => original::holds(&self.ours),
         };
         pages && self.buffer.is_rusts()
@@ -135,6 +135,8 @@ impl Tried {
         for store in [&mut self.model, &mut self.ours] {
             if writes == Writes::Frames {
                 store.bytes.copy_from_slice(&self.before.bytes);
+            }
+            if matches!(writes, Writes::Marks | Writes::Frames) {
                 store.frame_marks.copy_from_slice(&self.before.frame_marks);
             }
             if writes != Writes::Nothing {
@@ -158,6 +160,7 @@ fn same(writes: Writes, one: &Store, other: &Store) -> bool {
     match writes {
         Writes::Nothing => true,
         Writes::Tables => one.words == other.words && one.table_marks == other.table_marks,
+        Writes::Marks => same(Writes::Tables, one, other) && one.frame_marks == other.frame_marks,
         Writes::Frames => one == other,
     }
 }
