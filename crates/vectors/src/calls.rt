@@ -97,7 +97,30 @@ fn copied_in(
     string_answer(copies::copy_in_str(words, tmarks, bytes, fmarks, root, va, dst))
 }
 
-// What the call that copies says, and writes; where it is none of the others, it is uvm_copy.
+// What the call that releases a root says, and writes; where it is none of the others, it is proc_free_pagetable.
+fn released(
+    row: usize,
+    words: &mut [u64],
+    tmarks: &mut [u32],
+    bytes: &[u8],
+    fmarks: &mut [u32],
+) -> Answer {
+    let call = rows::call(row);
+    let root = rows::argument(row, 0);
+    let size = rows::argument(row, 1);
+    if call == 17 {
+        return release::free(words, tmarks, bytes, fmarks, root);
+    }
+    if call == 18 {
+        return release::uvm_free(words, tmarks, bytes, fmarks, root, size);
+    }
+    if call == 19 {
+        return release::free_shared_user_pagetable(words, tmarks, bytes, fmarks, root, size);
+    }
+    release::proc_free_pagetable(words, tmarks, bytes, fmarks, root, size)
+}
+
+// What the call that copies says, and writes; where it is none of these, it releases a root.
 fn on_bytes(
     row: usize,
     words: &mut [u64],
@@ -116,10 +139,13 @@ fn on_bytes(
     if call == 15 {
         return copied_in(row, words, tmarks, bytes, fmarks, lent);
     }
-    let parent = rows::argument(row, 0);
-    let child = rows::argument(row, 1);
-    let size = rows::argument(row, 2);
-    copies::uvm_copy(words, tmarks, bytes, fmarks, parent, child, size)
+    if call == 16 {
+        let parent = rows::argument(row, 0);
+        let child = rows::argument(row, 1);
+        let size = rows::argument(row, 2);
+        return copies::uvm_copy(words, tmarks, bytes, fmarks, parent, child, size);
+    }
+    released(row, words, tmarks, bytes, fmarks)
 }
 
 // What the call that takes pages out or brings fresh frames says, and writes; where it is none of these, it copies.

@@ -14,6 +14,7 @@ pub fn text(rows: &[Row]) -> String {
     let mut text = format!(
         "// Made by `oracle/run vectors`, which has the Rust, wrapping, make calls on stores of {TABLES} tables and {FRAMES} frames.
 // A row: which call (0 a fresh store, then {}, {},
+// {},
 // {}),
 // its five numbers, what the Rust answers (0 a value, 1 None, 2 a panic), that value, the refusal where docs/DIFFERENCES.md lists
 // another answer here, and the digest of the store and the lent bytes afterwards.
@@ -25,7 +26,8 @@ pub const LIST: [u64; {numbers}] = [
 ",
         NAMES[..3].join(", "),
         NAMES[3..7].join(", "),
-        NAMES[7..].join(", ")
+        NAMES[7..16].join(", "),
+        NAMES[16..].join(", ")
     );
     for row in rows {
         text += &format!("    // {}\n", row.made);
