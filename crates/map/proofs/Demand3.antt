@@ -34,9 +34,7 @@ module _ (s : Store) (root va pa size perm : ℕ) where
 
     ready : Room s root (firstPage va) n → MapReady s root va pa size perm
     ready room = record {
-      sized = fit .sized;
-      formed = fit .well-formed;
-      is-root = fit .root;
+      at-root = record { sized = fit .sized; formed = fit .well-formed; is-root = fit .root };
       numbers = record {
         length = short;
         pages = λ l. omega (arith, fit .pages (n - 1) (omega arith));

@@ -13,9 +13,9 @@ use Rattle.map.proofs.Entered.{outside-of, entered-at}
 module _ (s : Store) (root va pa size perm : ℕ) (ready : MapReady s root va pa size perm) where
   pub fit : Fit s root (firstPage va) (pagesOf va size) (pa / 4096) perm
   fit = record {
-    sized = ready .sized;
-    well-formed = ready .formed;
-    root = ready .is-root;
+    sized = ready .at-root .sized;
+    well-formed = ready .at-root .formed;
+    root = ready .at-root .is-root;
     pages = λ i l. omega (arith, ready .numbers .pages (omega arith));
     permissions = ready .numbers .perms;
     frames = ready .numbers .frames;

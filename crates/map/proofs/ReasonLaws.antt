@@ -1,16 +1,16 @@
 -- The reasons of `map` in order, and what each way out of its judge says. Assumes nothing.
 use mathlib.Core.Path.{_≡_, refl, sym, ap, _∙_}
+use mathlib.Core.Logic.{_⊎_, inl, inr}
 use Prim.Native.Nat.{ℕ, suc, _-_, _≤_, _<_}
 use native.Mathlib.Nat.{le-refl}
 use native.Mathlib.Omega.{arith}
 use Rattle.rounding.specs.Range.{firstPage, endPage}
-use Rattle.store.specs.Store.{Store, Sized, mark}
+use Rattle.store.specs.Store.{Store}
 use Rattle.store.specs.Count.{free, freeTables}
-use Rattle.store.specs.WellFormed.{WellFormed}
 use Rattle.store.specs.Outcome.{NoReason, Judges}
 use Rattle.store.proofs.Outcomes.{judges-no, judges-ok}
-use Rattle.well_formed.specs.Check.{Judged}
-use Rattle.well_formed.proofs.Verdict.{judged-no}
+use Rattle.well_formed.specs.Root.{RootReason, RootReady}
+use Rattle.well_formed.proofs.RootReasons.{root-clear, root-first}
 use Rattle.walk.specs.Mapped.{Mapped}
 use Rattle.walk.specs.Missing.{entryIn, missingIn, missing}
 use Rattle.walk.specs.Ranges.{PagesAlike}
@@ -18,7 +18,7 @@ use Rattle.walk.proofs.MissingLaws.{missing-in, missing-none}
 use Rattle.walk.proofs.Counts.{one-has, none-has}
 use Rattle.walk.proofs.Pages.{counted-mapped, mapped-counted}
 use Rattle.map.specs.Numbers.{pagesOf, NumberReason, NumbersReady, too-long, too-high, permissions, frame-high, held}
-use Rattle.map.specs.Reasons.{MapReason, sizes, unformed, no-root, numbers, taken, too-few, MapReady}
+use Rattle.map.specs.Reasons.{MapReason, at-root, numbers, taken, too-few, MapReady}
 use Rattle.map.proofs.NumberLaws.{ready-least}
 
 -- the numbers alone are refused with 6 to 10
@@ -39,95 +39,81 @@ module _ (s : Store) (root va pa size perm : ℕ) where
   abbrev N : ℕ → Type 0
   N = NumberReason va pa size perm
 
-  abbrev Root : Type 0
-  Root = mark (s .tmarks) root ≡ 1
-
   abbrev Unmapped : Type 0
   Unmapped = (p : ℕ) → firstPage va ≤ p → p < endPage va size → Mapped s root p → ⊥
 
   abbrev Enough : Type 0
   Enough = missing s root (firstPage va) (pagesOf va size) ≤ freeTables s
 
-  least : (n : ℕ) → (1 < n → Sized s) → (2 < n → WellFormed s) → (3 < n → Root) → ((k : ℕ) → k < n → N k → ⊥) → (14 < n → Unmapped) → (17 < n → Enough) → (k : ℕ) → k < n → R k → ⊥
-  least n z w r o u e k l (sizes h) = h (z l)
-  least n z w r o u e k l (unformed h) = h (w l)
-  least n z w r o u e k l (no-root h) = h (r l)
-  least n z w r o u e k l (numbers h) = o k l h
-  least n z w r o u e k l (taken p f t h) = u l p f t h
-  least n z w r o u e k l (too-few h) = omega (arith, e l)
+  split : (k : ℕ) → R k → RootReason s root k ⊎ (3 < k)
+  split k (at-root h) = inl h
+  split k (numbers h) = inr (omega (arith, number-range h))
+  split k (taken p f t h) = inr (omega arith)
+  split k (too-few h) = inr (omega arith)
 
-  -- below 6 no number is at fault
-  early : (n : ℕ) → n ≤ 6 → (k : ℕ) → k < n → N k → ⊥
-  early n h k l q = omega (arith, number-range q)
+  pub by-root : (n : ℕ) → (n ≡ 0 → ⊥) → Judges (RootReason s root) (RootReady s root) n → Judges R F n
+  by-root n h q = judges-no R F n h (root-first s root (λ k. at-root) split n (q .reason h))
 
-  pub not-judged : (n : ℕ) → Judged s n → (n ≡ 0 → ⊥) → Judges R F n
-  not-judged n j h =
-      judges-no R F n h
-      (judged-no s R
-      (λ h. record { applies = sizes h; least = least 1 (λ l. absurd (omega arith)) (λ l. absurd (omega arith)) (λ l. absurd (omega arith)) (early 1 (omega arith)) (λ l. absurd (omega arith)) (λ l. absurd (omega arith)) })
-      (λ z h. record { applies = unformed h; least = least 2 (λ l. z) (λ l. absurd (omega arith)) (λ l. absurd (omega arith)) (early 2 (omega arith)) (λ l. absurd (omega arith)) (λ l. absurd (omega arith)) })
-      n j h)
+  module _ (r : RootReady s root) where
+    least : (n : ℕ) → ((k : ℕ) → k < n → N k → ⊥) → (14 < n → Unmapped) → (17 < n → Enough) → (k : ℕ) → k < n → R k → ⊥
+    least n o u e k l (at-root h) = root-clear s root r k h
+    least n o u e k l (numbers h) = o k l h
+    least n o u e k l (taken p f t h) = u l p f t h
+    least n o u e k l (too-few h) = omega (arith, e l)
 
-  module _ (z : Sized s) (w : WellFormed s) where
-    pub no-3 : (Root → ⊥) → Judges R F 3
-    no-3 h = judges-no R F 3 (omega arith) (record { applies = no-root h; least = least 3 (λ l. z) (λ l. w) (λ l. absurd (omega arith)) (early 3 (omega arith)) (λ l. absurd (omega arith)) (λ l. absurd (omega arith)) })
+    pub no-numbers : (n : ℕ) → Judges N (NumbersReady va pa size perm) n → (n ≡ 0 → ⊥) → Judges R F n
+    no-numbers n j h =
+        let m = j .reason h in
+        let b = number-range (m .applies) in
+        judges-no R F n h (record { applies = numbers (m .applies); least = least n (m .least) (λ l. absurd (omega arith)) (λ l. absurd (omega arith)) })
 
-    module _ (r : Root) where
-      pub no-numbers : (n : ℕ) → Judges N (NumbersReady va pa size perm) n → (n ≡ 0 → ⊥) → Judges R F n
-      no-numbers n j h =
-          let m = j .reason h in
-          let b = number-range (m .applies) in
-          judges-no R F n h (record { applies = numbers (m .applies); least = least n (λ l. z) (λ l. w) (λ l. r) (m .least) (λ l. absurd (omega arith)) (λ l. absurd (omega arith)) })
+    module _ (o : NumbersReady va pa size perm) (first end : ℕ) (ef : first ≡ firstPage va) (ee : end ≡ endPage va size) where
+      fine : (n k : ℕ) → k < n → N k → ⊥
+      fine n k l = ready-least va pa size perm o k n l
 
-      module _ (o : NumbersReady va pa size perm) (first end : ℕ) (ef : first ≡ firstPage va) (ee : end ≡ endPage va size) where
-        fine : (n k : ℕ) → k < n → N k → ⊥
-        fine n k l = ready-least va pa size perm o k n l
+      pages : pagesOf va size ≡ end - first
+      pages = omega arith
 
-        pages : pagesOf va size ≡ end - first
-        pages = omega arith
+      -- no page is asked for
+      pub nothing : end ≤ first → Judges R F 0
+      nothing h =
+          judges-ok R F 0 refl (record {
+            at-root = r;
+            numbers = o;
+            unmapped = λ p f t. absurd (omega arith);
+            enough = let q : pagesOf va size ≡ 0 = omega arith in omega (arith, ap (missing s root (firstPage va)) q, missing-none s root (firstPage va));
+          })
 
-        -- no page is asked for
-        pub nothing : end ≤ first → Judges R F 0
-        nothing h =
-            judges-ok R F 0 refl (record {
-              sized = z;
-              formed = w;
-              is-root = r;
-              numbers = o;
-              unmapped = λ p f t. absurd (omega arith);
-              enough = let q : pagesOf va size ≡ 0 = omega arith in omega (arith, ap (missing s root (firstPage va)) q, missing-none s root (firstPage va));
-            })
+      module _ (h : first < end) where
+        lacks : (m : ℕ) → m ≡ missingIn (s .words) root first (end - first) → m ≡ missing s root (firstPage va) (pagesOf va size)
+        lacks m e = e ∙ missing-in s root first (end - first) ∙ ap (λ (p : ℕ). missing s root p (end - first)) ef ∙ ap (missing s root (firstPage va)) (sym pages)
 
-        module _ (h : first < end) where
-          lacks : (m : ℕ) → m ≡ missingIn (s .words) root first (end - first) → m ≡ missing s root (firstPage va) (pagesOf va size)
-          lacks m e = e ∙ missing-in s root first (end - first) ∙ ap (λ (p : ℕ). missing s root p (end - first)) ef ∙ ap (missing s root (firstPage va)) (sym pages)
+        -- c of the pages are mapped
+        module _ (c : ℕ) (count : PagesAlike (s .words) root first end 1 1 c) where
+          pub no-14 : (c ≡ 0 → ⊥) → Judges R F 14
+          no-14 n =
+              let q = one-has (entryIn (s .words) root 2) 1 1 first end c (omega arith) count (omega arith) in
+              judges-no R F 14 (omega arith) (record {
+                applies = taken (q .0) (omega (arith, q .1)) (omega (arith, q .2)) (counted-mapped s root (q .0) (q .3));
+                least = least 14 (λ k l. fine 14 k l) (λ l. absurd (omega arith)) (λ l. absurd (omega arith));
+              })
 
-          -- c of the pages are mapped
-          module _ (c : ℕ) (count : PagesAlike (s .words) root first end 1 1 c) where
-            pub no-14 : (c ≡ 0 → ⊥) → Judges R F 14
-            no-14 n =
-                let q = one-has (entryIn (s .words) root 2) 1 1 first end c (omega arith) count (omega arith) in
-                judges-no R F 14 (omega arith) (record {
-                  applies = taken (q .0) (omega (arith, q .1)) (omega (arith, q .2)) (counted-mapped s root (q .0) (q .3));
-                  least = least 14 (λ l. z) (λ l. w) (λ l. r) (λ k l. fine 14 k l) (λ l. absurd (omega arith)) (λ l. absurd (omega arith));
+          free-range : c ≡ 0 → Unmapped
+          free-range n p f t m =
+              none-has (entryIn (s .words) root 2) 1 1 first end c (omega arith) count n p (omega arith) (omega arith) (mapped-counted s root p m)
+
+          module _ (n : c ≡ 0) (f m : ℕ) (eq : f ≡ free (s .tmarks)) (em : m ≡ missingIn (s .words) root first (end - first)) where
+            pub no-17 : f < m → Judges R F 17
+            no-17 l =
+                judges-no R F 17 (omega arith) (record {
+                  applies = too-few (omega (arith, lacks m em));
+                  least = least 17 (λ k l. fine 17 k l) (λ l. free-range n) (λ l. absurd (omega arith));
                 })
 
-            free-range : c ≡ 0 → Unmapped
-            free-range n p f t m =
-                none-has (entryIn (s .words) root 2) 1 1 first end c (omega arith) count n p (omega arith) (omega arith) (mapped-counted s root p m)
-
-            module _ (n : c ≡ 0) (f m : ℕ) (eq : f ≡ free (s .tmarks)) (em : m ≡ missingIn (s .words) root first (end - first)) where
-              pub no-17 : f < m → Judges R F 17
-              no-17 l =
-                  judges-no R F 17 (omega arith) (record {
-                    applies = too-few (omega (arith, lacks m em));
-                    least = least 17 (λ l. z) (λ l. w) (λ l. r) (λ k l. fine 17 k l) (λ l. free-range n) (λ l. absurd (omega arith));
-                  })
-
-              pub all-ready : m ≤ f → Judges R F 0
-              all-ready l =
-                  judges-ok R F 0 refl (record { sized = z; formed = w; is-root = r; numbers = o; unmapped = free-range n; enough = omega (arith, lacks m em) })
+            pub all-ready : m ≤ f → Judges R F 0
+            all-ready l =
+                judges-ok R F 0 refl (record { at-root = r; numbers = o; unmapped = free-range n; enough = omega (arith, lacks m em) })
 
   -- where the call is ready no reason applies
   pub clear : F → NoReason R
-  clear f k = least (suc k) (λ l. f .sized) (λ l. f .formed) (λ l. f .is-root) (λ j l. ready-least va pa size perm (f .numbers) j (suc k) l) (λ l. f .unmapped) (λ l. f .enough) k (le-refl (suc k))
+  clear f k = least (f .at-root) (suc k) (λ j l. ready-least va pa size perm (f .numbers) j (suc k) l) (λ l. f .unmapped) (λ l. f .enough) k (le-refl (suc k))

@@ -68,14 +68,11 @@ pub fn judge_map(
         (MapReady (storeOf (now (words .entry)) (now (tmarks .entry)) (now (bytes .entry)) (now (fmarks .entry))) root (va .0) (pa .0) size perm)
         r ⌝ }
 {
-    let store = well_formed::judge_store(words, tmarks, bytes, fmarks);
-    if store != 0 {
-        return store;
+    let no = well_formed::judge_root(words, tmarks, bytes, fmarks, root);
+    if no != 0 {
+        return no;
     }
     let r = root as usize;
-    if store::mark_at(tmarks, r) != 1 {
-        return 3;
-    }
     let numbers = judge_numbers(va, pa, size, perm);
     if numbers != 0 {
         return numbers;

@@ -11,7 +11,7 @@ use borrow.Author.Tests.{lt-ltb}
 use Rattle.store.specs.Store.{Store}
 use Rattle.store.specs.declared.Answer.{Answer}
 use Rattle.store.proofs.Outcomes.{one-outcome}
-use Rattle.walk.specs.Satp.{SatpReason}
+use Rattle.well_formed.specs.Root.{RootReason}
 use Rattle.walk.proofs.TranslateLaws.{one-translate}
 use Rattle.map.proofs.CreateLaws.{one-create}
 use Rattle.map.proofs.MapLaws.{one-map}
@@ -33,7 +33,7 @@ from-dump {s} {root} d = record {
 
 -- two texts for one command are equal, and so are the stores that it leaves
 pub one-dump : (s : Store) (root : ℕ) (a a′ : Answer) → tree.Dump s root a → tree.Dump s root a′ → a ≡ a′
-one-dump s root a a′ p q = one-outcome (SatpReason s root) (tree.DumpDone s root) (λ v v′ t t′ x y. (x .0 ∙ sym (y .0), x .1 ∙ sym (y .1))) s a a′ s s p q .0
+one-dump s root a a′ p q = one-outcome (RootReason s root) (tree.DumpDone s root) (λ v v′ t t′ x y. (x .0 ∙ sym (y .0), x .1 ∙ sym (y .1))) s a a′ s s p q .0
 
 pub one-text : (s : Store) (c : Command) (t u : List ℕ) (s′ s″ : Store) → Ran s c t s′ → Ran s c u s″ → (t ≡ u) × (s′ ≡ s″)
 one-text s New t u s′ s″ (a, p, e) (b, q, f) = let o = one-create s a b s′ s″ p q in (e ∙ ap said (o .0) ∙ sym f, o .1)

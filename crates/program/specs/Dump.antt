@@ -8,7 +8,7 @@ use Rattle.store.specs.Walk.{tableOf}
 use Rattle.store.specs.Outcome.{Outcome}
 use Rattle.store.specs.declared.Answer.{Answer}
 use Rattle.store.specs.declared.Answer.the-variants.{Refused, Done}
-use Rattle.walk.specs.Satp.{SatpReason}
+use Rattle.well_formed.specs.Root.{RootReason}
 use Rattle.program.specs.Text.{rowText, said, Wrote}
 use Rattle.program.specs.declared.dump.Listing.{Listing}
 
@@ -50,12 +50,12 @@ rowsText (r ∷ rs) = rowText (r .level) (r .index) (r .word) ++ rowsText rs
 abbrev pub rootRows : Store → ℕ → List Row
 rootRows s root = table (s .words) 2 root
 
--- the answer is the number of entries listed; the refusals are those of `as_satp`
+-- the answer is the number of entries listed; it is refused with 1, 2 and 3 alone
 abbrev pub DumpDone : Store → ℕ → ℕ → Store → Type 0
 DumpDone s root v s′ = (v ≡ length (rootRows s root)) × (s′ ≡ s)
 
 abbrev pub Dump : Store → ℕ → Answer → Type 0
-Dump s root r = Outcome (SatpReason s root) (DumpDone s root) s r s
+Dump s root r = Outcome (RootReason s root) (DumpDone s root) s r s
 
 -- what is listed before the answer's line: nothing where the dump is refused
 unfoldable pub listed : Store → ℕ → Answer → List ℕ

@@ -79,12 +79,9 @@ pub fn dump(
     ensures { λ r. ⌜ Dumped (storeOf (now (words .entry)) (now (tmarks .entry)) (now (bytes .entry)) (now (fmarks .entry))) root
         (now (out .entry)) (now (out .exit)) r ⌝ }
 {
-    let no = well_formed::judge_store(words, tmarks, bytes, fmarks);
+    let no = well_formed::judge_root(words, tmarks, bytes, fmarks, root);
     if no != 0 {
         return text::put_answer(out, 0, Answer::Refused(no));
-    }
-    if store::mark_at(tmarks, root as usize) != 1 {
-        return text::put_answer(out, 0, Answer::Refused(3));
     }
     let start = Listing { at: 0, count: 0 };
     let end = list_table(words, root as usize, 2, out, start);

@@ -1,7 +1,7 @@
 -- Stores of which the pages of a root from some page on have gone, and a root that cannot be named. Assumes nothing.
 use mathlib.Core.Path.{_≡_, refl, sym, ap, _∙_}
 use mathlib.Core.Logic.{inl, by-cases}
-use mathlib.Core.Bool.{Bool, false}
+use mathlib.Core.Bool.{false}
 use mathlib.Core.List.{List}
 use Prim.Native.Nat.{ℕ, zero, suc, _+_, _^_, _≤_, _<_}
 use native.Mathlib.Nat.{add-zero}
@@ -9,14 +9,12 @@ use native.Mathlib.Decide.{ℕ-discrete}
 use native.Mathlib.Omega.{arith}
 use Rattle.store.specs.Store.{Store, mark}
 use Rattle.store.specs.Walk.{resolve}
-use Rattle.store.specs.Outcome.{Smallest, Judges}
+use Rattle.store.specs.Outcome.{Judges}
 use Rattle.store.specs.declared.Answer.the-variants.{Refused}
 use Rattle.well_formed.specs.Root.{RootReason, RootReady}
-use Rattle.well_formed.proofs.RootReasons.{root-upto}
 use Rattle.unmap.specs.Leave.{leaveSlot, leavePages, CanLeave}
-use Rattle.unmap.specs.Unmap.{UnmapReason}
 use Rattle.unmap.specs.Gone.{Gone}
-use Rattle.unmap.proofs.UnmapReasons.{leave-range}
+use Rattle.unmap.proofs.UnmapReasons.{root-least}
 use Rattle.unmap.proofs.LeavePages.{leavable}
 use Rattle.unmap.proofs.GoneLaws.{pages-gone}
 use Rattle.release.specs.Parts.{UvmFree}
@@ -51,30 +49,10 @@ module _ (s : Store) (root top : ℕ) (t : Store) (c : Cut s root (top + 1) t) (
 
 -- ---- 1, 2 and 3 are refused by the first part, whichever it is
 
-module _ (s : Store) (root va n : ℕ) (freeing : Bool) where
-  to-unmap : (k : ℕ) → RootReason s root k → UnmapReason s root va n freeing k
-  to-unmap k (RootReason.sizes h) = UnmapReason.sizes h
-  to-unmap k (RootReason.unformed h) = UnmapReason.unformed h
-  to-unmap k (RootReason.no-root h) = UnmapReason.no-root h
-
-  of-unmap : (k : ℕ) → k ≤ 3 → UnmapReason s root va n freeing k → RootReason s root k
-  of-unmap k l (UnmapReason.sizes h) = RootReason.sizes h
-  of-unmap k l (UnmapReason.unformed h) = RootReason.unformed h
-  of-unmap k l (UnmapReason.no-root h) = RootReason.no-root h
-  of-unmap k l (UnmapReason.too-high h) = absurd (omega arith)
-  of-unmap k l (UnmapReason.unaligned h) = absurd (omega arith)
-  of-unmap k l (UnmapReason.pages h) = absurd (omega (arith, leave-range h))
-
-  unmap-smallest : (k : ℕ) → Smallest (RootReason s root) k → Smallest (UnmapReason s root va n freeing) k
-  unmap-smallest k m = record {
-    applies = to-unmap k (m .applies);
-    least = λ j l q. m .least j l (of-unmap j (omega (arith, root-upto (m .applies))) q);
-  }
-
 module _ (s : Store) (root : ℕ) (k : ℕ) (j : Judges (RootReason s root) (RootReady s root) k) where
   refuses : (size : ℕ) → (k ≡ 0 → ⊥) → UvmFree root size s (Refused k) s
   refuses zero h = (by-root s root k h j .reason h, refl)
-  refuses (suc size) h = (inl (unmap-smallest s root 0 _ _ k (j .reason h), refl), refl)
+  refuses (suc size) h = (inl (root-least s root 0 _ _ k (j .reason h), refl), refl)
 
   pub root-refused : (size : ℕ) → (k ≡ 0 → ⊥) → JudgesParts (UvmFree root size) (RestReady root size) s k
   root-refused size h = record { ready = λ e. absurd (h e); reason = λ _. refuses size h }

@@ -178,9 +178,7 @@ module _ (s : Store) (z : Sized s) (c : WellFormed s) (t : ℕ) (s₁ : Store) (
     -- the pages can leave
     unmap-ready : UnmapReady s₂ t 0 (pagesTo k) true
     unmap-ready = record {
-      sized = g .sized;
-      formed = g .well-formed;
-      is-root = ready₂ .is-root;
+      at-root = ready₂;
       below = λ h. omega (arith, small, h .1, h .2);
       aligned = omega arith;
       pages = record { foreign = λ m. true≢false (m .0); mapped = λ i l. omega (arith, entry i l .1); full = λ i l x. omega (arith, entry i l .1) };

@@ -31,9 +31,7 @@ module _ (root va : ℕ) (aligned : va % 4096 ≡ 0) (Q : Store → Answer → S
     gone : UnmapOne root va s (Done 0) t
     gone =
         done-all s root va 1 false (record {
-          sized = c .asked .sized;
-          formed = c .asked .formed;
-          is-root = c .asked .is-root;
+          at-root = record { sized = c .asked .sized; formed = c .asked .formed; is-root = c .asked .is-root };
           below = λ h. omega (arith, h .1, h .2, c .asked .pages);
           aligned = aligned;
           pages = c .ready;
@@ -67,7 +65,7 @@ module _ (s : Store) (root size k : ℕ) (j : Judges (UnmapReason s root trampol
     s₁ = leavePages s root (trampoline / 4096) 1 false
 
     pub root-ready : RootReady s root
-    root-ready = record { sized = can .asked .sized; formed = can .asked .formed; is-root = can .asked .is-root }
+    root-ready = j .ready o .at-root
 
     cut : Cut s root (trampoline / 4096) s₁
     cut = one-less s root (trampoline / 4096) s (whole s root root-ready) can
@@ -86,8 +84,7 @@ module _ (s : Store) (root size k : ℕ) (j : Judges (UnmapReason s root trampol
 
       judged : Judges (UnmapReason s₁ root trapframe 1 false) (UnmapReady s₁ root trapframe 1 false) l
       judged =
-          let r = cut .at-root in
-          by-pages s₁ root trapframe 1 false (r .sized) (r .formed) (r .is-root) (λ h. omega (arith, h .1, h .2)) refl l (judges-same same false l i)
+          by-pages s₁ root trapframe 1 false (cut .at-root) (λ h. omega (arith, h .1, h .2)) refl l (judges-same same false l i)
 
       -- TRAMPOLINE, and then the others
       both : (m : ℕ) → JudgesParts (Then (UnmapOne root trapframe) (UvmFree root size)) (PageReady root (trapframe / 4096) (RestReady root size)) s₁ m

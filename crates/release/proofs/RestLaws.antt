@@ -56,9 +56,7 @@ module _ (root size : ℕ) (s : Store) (c : CanLeave s root 0 (pagesTo size) tru
   first-done : Unmap s root 0 (pagesTo size) true (Done 0) (left root size s)
   first-done =
       done-all s root 0 (pagesTo size) true (record {
-        sized = c .asked .sized;
-        formed = c .asked .formed;
-        is-root = c .asked .is-root;
+        at-root = record { sized = c .asked .sized; formed = c .asked .formed; is-root = c .asked .is-root };
         below = λ h. omega (arith, h .1, h .2, c .asked .pages);
         aligned = refl;
         pages = c .ready;
@@ -98,7 +96,7 @@ module _ (s : Store) (root size top : ℕ) (t : Store) (c : Cut s root top t) wh
       let r = c .at-root in
       refused 6 (omega arith)
       (first-refuses root size t 6 (omega arith)
-      (refuse t root 0 (pagesTo size) true 6 (no-6 t root 0 (pagesTo size) true (r .sized) (r .formed) (r .is-root) (2 ^ 26, omega arith, omega arith)) (omega arith)))
+      (refuse t root 0 (pagesTo size) true 6 (no-6 t root 0 (pagesTo size) true r (2 ^ 26, omega arith, omega arith)) (omega arith)))
 
   module _ (small : size ≤ 2 ^ 38) where
     -- a reason of the unmapping; where there are no pages there is none
@@ -112,7 +110,7 @@ module _ (s : Store) (root size top : ℕ) (t : Store) (c : Cut s root top t) wh
         let r = c .at-root in
         refused k h
         (first-refuses root size t k (λ z. none-of-none t k z (j .reason h .applies))
-        (refuse t root 0 (pagesTo size) true k (by-pages t root 0 (pagesTo size) true (r .sized) (r .formed) (r .is-root) (λ q. omega (arith, q .1, q .2)) refl k j) h))
+        (refuse t root 0 (pagesTo size) true k (by-pages t root 0 (pagesTo size) true r (λ q. omega (arith, q .1, q .2)) refl k j) h))
 
     -- a page of size has gone before
     past : top < pagesTo size → top < 2 ^ 26 → P 11

@@ -35,7 +35,7 @@ module _ (s : Store) (root va n : ℕ) (freeing : Bool) where
 
     pub may-leave : (n ≡ 0 → ⊥) → CanLeave s root (va / 4096) n freeing
     may-leave h = record {
-      asked = record { sized = f .sized; formed = f .formed; is-root = f .is-root; pages = within (va / 4096) n (omega arith) (f .below) };
+      asked = record { sized = f .at-root .sized; formed = f .at-root .formed; is-root = f .at-root .is-root; pages = within (va / 4096) n (omega arith) (f .below) };
       ready = f .pages;
     }
 

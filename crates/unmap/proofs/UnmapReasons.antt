@@ -4,16 +4,15 @@ use mathlib.Core.Bool.{Bool}
 use Prim.Native.Nat.{ℕ, suc, _+_, _-_, _/_, _%_, _^_, _≤_, _<_}
 use native.Mathlib.Nat.{le-refl}
 use native.Mathlib.Decide.{decLe}
-use mathlib.Core.Logic.{by-cases}
+use mathlib.Core.Logic.{_⊎_, inl, inr, by-cases}
 use native.Mathlib.Omega.{arith}
-use Rattle.store.specs.Store.{Store, Sized, mark}
-use Rattle.store.specs.WellFormed.{WellFormed}
-use Rattle.store.specs.Outcome.{NoReason, Judges}
+use Rattle.store.specs.Store.{Store}
+use Rattle.store.specs.Outcome.{Smallest, NoReason, Judges}
 use Rattle.store.proofs.Outcomes.{judges-no, judges-ok}
-use Rattle.well_formed.specs.Check.{Judged}
-use Rattle.well_formed.proofs.Verdict.{judged-no}
+use Rattle.well_formed.specs.Root.{RootReason, RootReady}
+use Rattle.well_formed.proofs.RootReasons.{root-clear, root-first}
 use Rattle.unmap.specs.Leave.{LeaveReason, pooled, unmapped, bare, LeaveReady}
-use Rattle.unmap.specs.Unmap.{TooHigh, UnmapReason, sizes, unformed, no-root, too-high, unaligned, pages, UnmapReady}
+use Rattle.unmap.specs.Unmap.{TooHigh, UnmapReason, at-root, too-high, unaligned, pages, UnmapReady}
 
 -- where no page lies too high, the last one does not
 pub within : (p k : ℕ) → 0 < k → (TooHigh p k → ⊥) → p + k ≤ 2 ^ 26
@@ -41,57 +40,54 @@ module _ (s : Store) (root va n : ℕ) (freeing : Bool) where
   abbrev L : ℕ → Type 0
   L = LeaveReason s root (va / 4096) n freeing
 
-  least : (j : ℕ) → (1 < j → Sized s) → (2 < j → WellFormed s) → (3 < j → mark (s .tmarks) root ≡ 1) → (6 < j → TooHigh (va / 4096) n → ⊥) → (7 < j → va % 4096 ≡ 0)
-      → ((k : ℕ) → k < j → L k → ⊥) → (k : ℕ) → k < j → R k → ⊥
-  least j z w r t a o k l (sizes h) = h (z l)
-  least j z w r t a o k l (unformed h) = h (w l)
-  least j z w r t a o k l (no-root h) = h (r l)
-  least j z w r t a o k l (too-high h) = t l h
-  least j z w r t a o k l (unaligned h) = h (a l)
-  least j z w r t a o k l (pages h) = o k l h
+  split : (k : ℕ) → R k → RootReason s root k ⊎ (3 < k)
+  split k (at-root h) = inl h
+  split k (too-high h) = inr (omega arith)
+  split k (unaligned h) = inr (omega arith)
+  split k (pages h) = inr (omega (arith, leave-range h))
 
-  -- below 10 no page is at fault
-  early : (j : ℕ) → j ≤ 10 → (k : ℕ) → k < j → L k → ⊥
-  early j h k l q = omega (arith, leave-range q)
+  pub root-least : (j : ℕ) → Smallest (RootReason s root) j → Smallest R j
+  root-least = root-first s root (λ k. at-root) split
 
-  pub not-judged : (j : ℕ) → Judged s j → (j ≡ 0 → ⊥) → Judges R F j
-  not-judged j q h =
-      judges-no R F j h
-      (judged-no s R
-      (λ h. record { applies = sizes h; least = least 1 (λ l. absurd (omega arith)) (λ l. absurd (omega arith)) (λ l. absurd (omega arith)) (λ l. absurd (omega arith)) (λ l. absurd (omega arith)) (early 1 (omega arith)) })
-      (λ z h. record { applies = unformed h; least = least 2 (λ l. z) (λ l. absurd (omega arith)) (λ l. absurd (omega arith)) (λ l. absurd (omega arith)) (λ l. absurd (omega arith)) (early 2 (omega arith)) })
-      j q h)
+  pub by-root : (j : ℕ) → (j ≡ 0 → ⊥) → Judges (RootReason s root) (RootReady s root) j → Judges R F j
+  by-root j h q = judges-no R F j h (root-least j (q .reason h))
 
-  module _ (z : Sized s) (w : WellFormed s) where
-    pub no-3 : (mark (s .tmarks) root ≡ 1 → ⊥) → Judges R F 3
-    no-3 h = judges-no R F 3 (omega arith) (record { applies = no-root h; least = least 3 (λ l. z) (λ l. w) (λ l. absurd (omega arith)) (λ l. absurd (omega arith)) (λ l. absurd (omega arith)) (early 3 (omega arith)) })
+  module _ (r : RootReady s root) where
+    least : (j : ℕ) → (6 < j → TooHigh (va / 4096) n → ⊥) → (7 < j → va % 4096 ≡ 0) → ((k : ℕ) → k < j → L k → ⊥) → (k : ℕ) → k < j → R k → ⊥
+    least j t a o k l (at-root h) = root-clear s root r k h
+    least j t a o k l (too-high h) = t l h
+    least j t a o k l (unaligned h) = h (a l)
+    least j t a o k l (pages h) = o k l h
 
-    module _ (r : mark (s .tmarks) root ≡ 1) where
-      pub no-6 : TooHigh (va / 4096) n → Judges R F 6
-      no-6 h = judges-no R F 6 (omega arith) (record { applies = too-high h; least = least 6 (λ l. z) (λ l. w) (λ l. r) (λ l. absurd (omega arith)) (λ l. absurd (omega arith)) (early 6 (omega arith)) })
+    -- below 10 no page is at fault
+    early : (j : ℕ) → j ≤ 10 → (k : ℕ) → k < j → L k → ⊥
+    early j h k l q = omega (arith, leave-range q)
 
-      module _ (t : TooHigh (va / 4096) n → ⊥) where
-        pub no-7 : (va % 4096 ≡ 0 → ⊥) → Judges R F 7
-        no-7 h = judges-no R F 7 (omega arith) (record { applies = unaligned h; least = least 7 (λ l. z) (λ l. w) (λ l. r) (λ l. t) (λ l. absurd (omega arith)) (early 7 (omega arith)) })
+    pub no-6 : TooHigh (va / 4096) n → Judges R F 6
+    no-6 h = judges-no R F 6 (omega arith) (record { applies = too-high h; least = least 6 (λ l. absurd (omega arith)) (λ l. absurd (omega arith)) (early 6 (omega arith)) })
 
-        module _ (a : va % 4096 ≡ 0) where
-          ready : LeaveReady s root (va / 4096) n freeing → F
-          ready f = record { sized = z; formed = w; is-root = r; below = t; aligned = a; pages = f }
+    module _ (t : TooHigh (va / 4096) n → ⊥) where
+      pub no-7 : (va % 4096 ≡ 0 → ⊥) → Judges R F 7
+      no-7 h = judges-no R F 7 (omega arith) (record { applies = unaligned h; least = least 7 (λ l. t) (λ l. absurd (omega arith)) (early 7 (omega arith)) })
 
-          pub nothing : n ≡ 0 → Judges R F 0
-          nothing h =
-              judges-ok R F 0 refl (ready (record {
-                foreign = λ m. omega (arith, m .2);
-                mapped = λ i l. absurd (omega arith);
-                full = λ i l. absurd (omega arith);
-              }))
+      module _ (a : va % 4096 ≡ 0) where
+        ready : LeaveReady s root (va / 4096) n freeing → F
+        ready f = record { at-root = r; below = t; aligned = a; pages = f }
 
-          pub by-pages : (j : ℕ) → Judges L (LeaveReady s root (va / 4096) n freeing) j → Judges R F j
-          by-pages j q = record {
-            ready = λ e. ready (q .ready e);
-            reason = λ h. let m = q .reason h in record { applies = pages (m .applies); least = least j (λ l. z) (λ l. w) (λ l. r) (λ l. t) (λ l. a) (m .least) };
-          }
+        pub nothing : n ≡ 0 → Judges R F 0
+        nothing h =
+            judges-ok R F 0 refl (ready (record {
+              foreign = λ m. omega (arith, m .2);
+              mapped = λ i l. absurd (omega arith);
+              full = λ i l. absurd (omega arith);
+            }))
+
+        pub by-pages : (j : ℕ) → Judges L (LeaveReady s root (va / 4096) n freeing) j → Judges R F j
+        by-pages j q = record {
+          ready = λ e. ready (q .ready e);
+          reason = λ h. let m = q .reason h in record { applies = pages (m .applies); least = least j (λ l. t) (λ l. a) (m .least) };
+        }
 
   -- where the call is ready no reason applies
   pub clear : F → NoReason R
-  clear f k = least (suc k) (λ l. f .sized) (λ l. f .formed) (λ l. f .is-root) (λ l. f .below) (λ l. f .aligned) (λ j l. leave-clear (f .pages) j) k (le-refl (suc k))
+  clear f k = least (f .at-root) (suc k) (λ l. f .below) (λ l. f .aligned) (λ j l. leave-clear (f .pages) j) k (le-refl (suc k))

@@ -3,18 +3,16 @@ use mathlib.Core.Path.{_≡_}
 use Prim.Native.Nat.{ℕ, _/_, _^_, _≤_}
 use Rattle.page_table_entry.specs.Layout.{bitU}
 use Rattle.page_table_entry.specs.Change.{withBit}
-use Rattle.store.specs.Store.{Store, Sized, mark}
-use Rattle.store.specs.WellFormed.{WellFormed}
+use Rattle.store.specs.Store.{Store}
 use Rattle.store.specs.Walk.{slotWord, slot, entryAt, resolve}
 use Rattle.store.specs.Outcome.{Outcome}
 use Rattle.store.specs.declared.Answer.{Answer}
+use Rattle.well_formed.specs.Root.{RootReason}
 use Rattle.map.specs.Enter.{stored}
 
 -- 11 is given only when the page's block has no level-0 table
 pub data ClearReason (s : Store) (root va : ℕ) : ℕ → Type 0 where
-  sizes : (Sized s → ⊥) → ClearReason s root va 1
-  unformed : (WellFormed s → ⊥) → ClearReason s root va 2
-  no-root : (mark (s .tmarks) root ≡ 1 → ⊥) → ClearReason s root va 3
+  at-root : {k : ℕ} → RootReason s root k → ClearReason s root va k
   too-high : 2 ^ 38 ≤ va → ClearReason s root va 6
   no-table : entryAt s root 1 (va / 4096 / 512) ≡ 0 → ClearReason s root va 11
 

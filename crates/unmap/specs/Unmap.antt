@@ -2,10 +2,10 @@
 use mathlib.Core.Path.{_≡_}
 use mathlib.Core.Bool.{Bool}
 use Prim.Native.Nat.{ℕ, _+_, _/_, _%_, _^_, _≤_, _<_}
-use Rattle.store.specs.Store.{Store, Sized, mark}
-use Rattle.store.specs.WellFormed.{WellFormed}
+use Rattle.store.specs.Store.{Store}
 use Rattle.store.specs.Outcome.{Outcome}
 use Rattle.store.specs.declared.Answer.{Answer}
+use Rattle.well_formed.specs.Root.{RootReason, RootReady}
 use Rattle.unmap.specs.Leave.{LeaveReason, LeaveReady, leavePages}
 
 -- one of n pages from page p on lies at or above 2^38
@@ -14,18 +14,14 @@ TooHigh p n = (i : ℕ) × (i < n) × (2 ^ 26 ≤ p + i)
 
 -- n pages from that of va on
 pub data UnmapReason (s : Store) (root va n : ℕ) (freeing : Bool) : ℕ → Type 0 where
-  sizes : (Sized s → ⊥) → UnmapReason s root va n freeing 1
-  unformed : (WellFormed s → ⊥) → UnmapReason s root va n freeing 2
-  no-root : (mark (s .tmarks) root ≡ 1 → ⊥) → UnmapReason s root va n freeing 3
+  at-root : {k : ℕ} → RootReason s root k → UnmapReason s root va n freeing k
   too-high : TooHigh (va / 4096) n → UnmapReason s root va n freeing 6
   unaligned : (va % 4096 ≡ 0 → ⊥) → UnmapReason s root va n freeing 7
   pages : {k : ℕ} → LeaveReason s root (va / 4096) n freeing k → UnmapReason s root va n freeing k
 
 -- what holds where none of them applies
 pub record UnmapReady (s : Store) (root va n : ℕ) (freeing : Bool) : Type 0 where
-  pub sized : Sized s
-  pub formed : WellFormed s
-  pub is-root : mark (s .tmarks) root ≡ 1
+  pub at-root : RootReady s root
   pub below : TooHigh (va / 4096) n → ⊥
   pub aligned : va % 4096 ≡ 0
   pub pages : LeaveReady s root (va / 4096) n freeing

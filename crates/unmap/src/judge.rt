@@ -99,13 +99,9 @@ pub fn judge_unmap(
         (UnmapReady (storeOf (now (words .entry)) (now (tmarks .entry)) (now (bytes .entry)) (now (fmarks .entry))) root (va .0) n freeing)
         r ⌝ }
 {
-    let store = well_formed::judge_store(words, tmarks, bytes, fmarks);
-    if store != 0 {
-        return store;
-    }
-    let r = root as usize;
-    if store::mark_at(tmarks, r) != 1 {
-        return 3;
+    let no = well_formed::judge_root(words, tmarks, bytes, fmarks, root);
+    if no != 0 {
+        return no;
     }
     let first = va.0 / 4096;
     if too_high(first, n) {
@@ -122,7 +118,7 @@ pub fn judge_unmap(
         tmarks,
         bytes,
         fmarks,
-        r,
+        root as usize,
         first as usize,
         (first + n) as usize,
         freeing,

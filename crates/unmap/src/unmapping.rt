@@ -58,18 +58,14 @@ pub fn uvm_clear(
         (storeOf (now (words .entry)) (now (tmarks .entry)) (now (bytes .entry)) (now (fmarks .entry))) root (va .0) r
         (storeOf (now (words .exit)) (now (tmarks .entry)) (now (bytes .entry)) (now (fmarks .entry))) ⌝ }
 {
-    let no = well_formed::judge_store(words, tmarks, bytes, fmarks);
+    let no = well_formed::judge_root(words, tmarks, bytes, fmarks, root);
     if no != 0 {
         return Answer::Refused(no);
-    }
-    let r = root as usize;
-    if store::mark_at(tmarks, r) != 1 {
-        return Answer::Refused(3);
     }
     if va.0 >= MAXVA {
         return Answer::Refused(6);
     }
-    let m = walk::slot_of(words, r, (va.0 / 4096) as usize);
+    let m = walk::slot_of(words, root as usize, (va.0 / 4096) as usize);
     if m < 2 {
         return Answer::Refused(11);
     }

@@ -1,6 +1,6 @@
 -- `pgt_translate`: its reasons in order, that it answers in one way, and that it answers where the machine translates. Assumes nothing.
 use mathlib.Core.Path.{_≡_, refl, sym, _∙_}
-use mathlib.Core.Logic.{⊎-elim, _↔_}
+use mathlib.Core.Logic.{_⊎_, inl, inr, ⊎-elim, _↔_}
 use mathlib.Core.Bool.{true}
 use Prim.Native.Nat.{ℕ, suc, _+_, _/_, _%_, _^_, _≤_, _<_}
 use native.Mathlib.Nat.{le-refl}
@@ -14,10 +14,10 @@ use Rattle.store.specs.Outcome.{Smallest, NoReason}
 use Rattle.store.specs.declared.Answer.{Answer}
 use Rattle.store.specs.declared.Answer.the-variants.{Done}
 use Rattle.store.proofs.Outcomes.{one-outcome}
-use Rattle.well_formed.specs.Check.{Judged}
-use Rattle.well_formed.proofs.Verdict.{judged-no}
+use Rattle.well_formed.specs.Root.{RootReason, RootReady}
+use Rattle.well_formed.proofs.RootReasons.{root-clear, root-first}
 use Rattle.walk.specs.Mapped.{Mapped}
-use Rattle.walk.specs.Translate.{TranslateReason, sizes, unformed, no-root, too-high, unmapped, no-user, TranslateDone, Translate}
+use Rattle.walk.specs.Translate.{TranslateReason, at-root, too-high, unmapped, no-user, TranslateDone, Translate}
 use Rattle.walk.specs.Sv39.{Kind, at, translate, memory, satpOf, usable}
 use Rattle.walk.proofs.Judged.{parity}
 use Rattle.walk.proofs.Sv39.{reached, answers-exactly}
@@ -26,47 +26,41 @@ module _ (s : Store) (root va : ℕ) where
   abbrev R : ℕ → Type 0
   R = TranslateReason s root va
 
-  abbrev Root : Type 0
-  Root = mark (s .tmarks) root ≡ 1
-
   abbrev Page : Type 0
   Page = Mapped s root (va / 4096)
 
   abbrev User : Type 0
   User = bit bitU (resolve s root (va / 4096)) ≡ 1
 
-  -- no reason below n applies, where what each of them denies holds
-  least : (n : ℕ) → (1 < n → Sized s) → (2 < n → WellFormed s) → (3 < n → Root) → (6 < n → va < 2 ^ 38) → (11 < n → Page) → (12 < n → User) → (k : ℕ) → k < n → R k → ⊥
-  least n z w r v p u k l (sizes h) = h (z l)
-  least n z w r v p u k l (unformed h) = h (w l)
-  least n z w r v p u k l (no-root h) = h (r l)
-  least n z w r v p u k l (too-high h) = omega (arith, v l)
-  least n z w r v p u k l (unmapped h) = h (p l)
-  least n z w r v p u k l (no-user h) = h (u l)
+  split : (k : ℕ) → R k → RootReason s root k ⊎ (3 < k)
+  split k (at-root h) = inl h
+  split k (too-high h) = inr (omega arith)
+  split k (unmapped h) = inr (omega arith)
+  split k (no-user h) = inr (omega arith)
 
-  pub not-judged : (n : ℕ) → Judged s n → (n ≡ 0 → ⊥) → Smallest R n
-  not-judged =
-      judged-no s R
-      (λ h. record { applies = sizes h; least = least 1 (λ l. absurd (omega arith)) (λ l. absurd (omega arith)) (λ l. absurd (omega arith)) (λ l. absurd (omega arith)) (λ l. absurd (omega arith)) (λ l. absurd (omega arith)) })
-      (λ z h. record { applies = unformed h; least = least 2 (λ l. z) (λ l. absurd (omega arith)) (λ l. absurd (omega arith)) (λ l. absurd (omega arith)) (λ l. absurd (omega arith)) (λ l. absurd (omega arith)) })
+  pub by-root : (n : ℕ) → Smallest (RootReason s root) n → Smallest R n
+  by-root = root-first s root (λ k. at-root) split
 
-  module _ (z : Sized s) (w : WellFormed s) where
-    pub no-3 : (Root → ⊥) → Smallest R 3
-    no-3 h = record { applies = no-root h; least = least 3 (λ l. z) (λ l. w) (λ l. absurd (omega arith)) (λ l. absurd (omega arith)) (λ l. absurd (omega arith)) (λ l. absurd (omega arith)) }
+  module _ (r : RootReady s root) where
+    -- no reason below n applies, where what each of them denies holds
+    least : (n : ℕ) → (6 < n → va < 2 ^ 38) → (11 < n → Page) → (12 < n → User) → (k : ℕ) → k < n → R k → ⊥
+    least n v p u k l (at-root h) = root-clear s root r k h
+    least n v p u k l (too-high h) = omega (arith, v l)
+    least n v p u k l (unmapped h) = h (p l)
+    least n v p u k l (no-user h) = h (u l)
 
-    module _ (r : Root) where
-      pub no-6 : 2 ^ 38 ≤ va → Smallest R 6
-      no-6 h = record { applies = too-high h; least = least 6 (λ l. z) (λ l. w) (λ l. r) (λ l. absurd (omega arith)) (λ l. absurd (omega arith)) (λ l. absurd (omega arith)) }
+    pub no-6 : 2 ^ 38 ≤ va → Smallest R 6
+    no-6 h = record { applies = too-high h; least = least 6 (λ l. absurd (omega arith)) (λ l. absurd (omega arith)) (λ l. absurd (omega arith)) }
 
-      module _ (v : va < 2 ^ 38) where
-        pub no-11 : (Page → ⊥) → Smallest R 11
-        no-11 h = record { applies = unmapped h; least = least 11 (λ l. z) (λ l. w) (λ l. r) (λ l. v) (λ l. absurd (omega arith)) (λ l. absurd (omega arith)) }
+    module _ (v : va < 2 ^ 38) where
+      pub no-11 : (Page → ⊥) → Smallest R 11
+      no-11 h = record { applies = unmapped h; least = least 11 (λ l. v) (λ l. absurd (omega arith)) (λ l. absurd (omega arith)) }
 
-        pub no-12 : Page → (User → ⊥) → Smallest R 12
-        no-12 p h = record { applies = no-user h; least = least 12 (λ l. z) (λ l. w) (λ l. r) (λ l. v) (λ l. p) (λ l. absurd (omega arith)) }
+      pub no-12 : Page → (User → ⊥) → Smallest R 12
+      no-12 p h = record { applies = no-user h; least = least 12 (λ l. v) (λ l. p) (λ l. absurd (omega arith)) }
 
-        pub clear : Page → User → NoReason R
-        clear p u k = least (suc k) (λ l. z) (λ l. w) (λ l. r) (λ l. v) (λ l. p) (λ l. u) k (le-refl (suc k))
+      pub clear : Page → User → NoReason R
+      clear p u k = least (suc k) (λ l. v) (λ l. p) (λ l. u) k (le-refl (suc k))
 
   -- two answers to one call are the same
   pub one-translate : (a a′ : Answer) → Translate s root va a → Translate s root va a′ → a ≡ a′
@@ -84,7 +78,7 @@ module _ (s : Store) (root va : ℕ) where
       → ((v : ℕ) × Translate s root va (Done v)) ↔ ((kind : Kind) × (pa : ℕ) × (translate (memory s other) (satpOf root) va kind ≡ at pa))
   answers-where z w r l u other = (
     λ a. answers-exactly s z w root r other va l .1 (mapped (a .1 .0), user (a .1 .0), u),
-    λ m. let x = answers-exactly s z w root r other va l .0 m in (frameOf (resolve s root (va / 4096)), (clear z w r l (x .0) (x .1), (refl, refl))),
+    λ m. let x = answers-exactly s z w root r other va l .0 m in (frameOf (resolve s root (va / 4096)), (clear (record { sized = z; formed = w; is-root = r }) l (x .0) (x .1), (refl, refl))),
   )
     where
       mapped : NoReason R → Page

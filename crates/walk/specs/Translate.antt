@@ -3,18 +3,16 @@ use mathlib.Core.Path.{_≡_}
 use Prim.Native.Nat.{ℕ, _/_, _^_, _≤_}
 use Rattle.address.specs.Field.{bit}
 use Rattle.page_table_entry.specs.Layout.{bitU, frameOf}
-use Rattle.store.specs.Store.{Store, Sized, mark}
-use Rattle.store.specs.WellFormed.{WellFormed}
+use Rattle.store.specs.Store.{Store}
 use Rattle.store.specs.Walk.{resolve}
 use Rattle.store.specs.Outcome.{Outcome}
 use Rattle.store.specs.declared.Answer.{Answer}
+use Rattle.well_formed.specs.Root.{RootReason}
 use Rattle.walk.specs.Mapped.{Mapped}
 
 -- the numbers of document 01, for a root and the page of va
 pub data TranslateReason (s : Store) (root va : ℕ) : ℕ → Type 0 where
-  sizes : (Sized s → ⊥) → TranslateReason s root va 1
-  unformed : (WellFormed s → ⊥) → TranslateReason s root va 2
-  no-root : (mark (s .tmarks) root ≡ 1 → ⊥) → TranslateReason s root va 3
+  at-root : {k : ℕ} → RootReason s root k → TranslateReason s root va k
   too-high : 2 ^ 38 ≤ va → TranslateReason s root va 6
   unmapped : (Mapped s root (va / 4096) → ⊥) → TranslateReason s root va 11
   no-user : (bit bitU (resolve s root (va / 4096)) ≡ 1 → ⊥) → TranslateReason s root va 12

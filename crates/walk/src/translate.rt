@@ -20,18 +20,14 @@ pub fn pgt_translate(
 ) -> Answer
     ensures { λ r. ⌜ Translate (storeOf (now (words .entry)) (now (tmarks .entry)) (now (bytes .entry)) (now (fmarks .entry))) root (va .0) r ⌝ }
 {
-    let no = well_formed::judge_store(words, tmarks, bytes, fmarks);
+    let no = well_formed::judge_root(words, tmarks, bytes, fmarks, root);
     if no != 0 {
         return Answer::Refused(no);
-    }
-    let r = root as usize;
-    if store::mark_at(tmarks, r) != 1 {
-        return Answer::Refused(3);
     }
     if va.0 >= MAXVA {
         return Answer::Refused(6);
     }
-    let m = steps::slot_of(words, r, (va.0 / 4096) as usize);
+    let m = steps::slot_of(words, root as usize, (va.0 / 4096) as usize);
     let e = PageTableEntry(steps::slot_word(words, m));
     if !e.is_valid() {
         return Answer::Refused(11);
@@ -47,12 +43,9 @@ pub fn pgt_translate(
 pub fn as_satp(words: &[u64], tmarks: &[u32], bytes: &[u8], fmarks: &[u32], root: u64) -> Answer
     ensures { λ r. ⌜ Satp (storeOf (now (words .entry)) (now (tmarks .entry)) (now (bytes .entry)) (now (fmarks .entry))) root r ⌝ }
 {
-    let no = well_formed::judge_store(words, tmarks, bytes, fmarks);
+    let no = well_formed::judge_root(words, tmarks, bytes, fmarks, root);
     if no != 0 {
         return Answer::Refused(no);
-    }
-    if store::mark_at(tmarks, root as usize) != 1 {
-        return Answer::Refused(3);
     }
     Answer::Done(0x8000_0000_0010_0000 + root)
 }

@@ -1,11 +1,12 @@
 -- The reasons of a named root in order, and what each way out of its judge says. Assumes nothing.
 use mathlib.Core.Path.{_≡_, refl}
+use mathlib.Core.Logic.{_⊎_, ⊎-elim}
 use Prim.Native.Nat.{ℕ, suc, _≤_, _<_}
 use native.Mathlib.Nat.{le-refl}
 use native.Mathlib.Omega.{arith}
 use Rattle.store.specs.Store.{Store, Sized, mark}
 use Rattle.store.specs.WellFormed.{WellFormed}
-use Rattle.store.specs.Outcome.{NoReason, Judges}
+use Rattle.store.specs.Outcome.{Smallest, NoReason, Judges}
 use Rattle.store.proofs.Outcomes.{judges-no, judges-ok}
 use Rattle.well_formed.specs.Check.{Judged}
 use Rattle.well_formed.specs.Root.{RootReason, sizes, unformed, no-root, RootReady}
@@ -32,6 +33,13 @@ module _ (s : Store) (root : ℕ) where
   -- where the root can be used no reason applies
   pub root-clear : F → NoReason R
   root-clear f k = least (suc k) (λ l. f .sized) (λ l. f .formed) (λ l. f .is-root) k (le-refl (suc k))
+
+  -- they come before the others of a call, whose numbers are larger
+  pub root-first : {A : ℕ → Type 0} → ((k : ℕ) → R k → A k) → ((k : ℕ) → A k → R k ⊎ (3 < k)) → (n : ℕ) → Smallest R n → Smallest A n
+  root-first up split n m = record {
+    applies = up n (m .applies);
+    least = λ k l a. ⊎-elim (m .least k l) (λ b. omega (arith, root-upto (m .applies))) (split k a);
+  }
 
   pub not-judged : (n : ℕ) → Judged s n → (n ≡ 0 → ⊥) → Judges R F n
   not-judged n q h =

@@ -1,16 +1,14 @@
 -- `unmap::unmapping::uvm_clear` meets its contract. Assumes nothing.
-use mathlib.Core.Path.{sym, _∙_}
 use native.Mathlib.Omega.{arith}
 use borrow.Author.Needs.{needs}
 use Rattle.store.specs.Store.{storeOf}
-use Rattle.well_formed.proofs.Verdict.{judged-ok}
 use Rattle.walk.proofs.Calls.{root-in}
-use Rattle.unmap.proofs.ClearLaws.{not-judged, no-3, no-6, no-11, done}
+use Rattle.unmap.proofs.ClearLaws.{by-root, no-6, no-11, done}
 use Rattle.unmap.proofs.unmapping.uvm_clear.Statement.{statement}
 use Rattle.unmap.proofs.unmapping.uvm_clear.Tie as tie
 
-judge-store-requires : tie.Need-judge-store-requires
-judge-store-requires c κs = search needs
+judge-root-requires : tie.Need-judge-root-requires
+judge-root-requires c κs = search needs
 
 same-length : tie.Need-same-length
 same-length c = search needs
@@ -18,10 +16,7 @@ same-length c = search needs
 returns : tie.Need-returns
 returns c =
     let a = c .before .before .before .before .before .before .before .args in
-    not-judged (storeOf (a .words .now) (a .tmarks .now) (a .bytes .now) (a .fmarks .now)) (a .root) (a .va .0) _ (c .before .judge-store .ensures) (c .if1 .taken)
-
-mark-at-requires : tie.Need-mark-at-requires
-mark-at-requires c κs = search needs
+    by-root (storeOf (a .words .now) (a .tmarks .now) (a .bytes .now) (a .fmarks .now)) (a .root) (a .va .0) _ (c .before .judge-root .ensures .reason (c .if1 .taken))
 
 same-length-2 : tie.Need-same-length-2
 same-length-2 c = search needs
@@ -29,35 +24,23 @@ same-length-2 c = search needs
 returns-2 : tie.Need-returns-2
 returns-2 c =
     let a = c .before .before .before .before .before .before .before .before .before .args in
-    let g = judged-ok _ (c .before .before .before .judge-store .result) (c .before .before .before .judge-store .ensures) (c .before .before .if1 .left) in
-    no-3 (storeOf (a .words .now) (a .tmarks .now) (a .bytes .now) (a .fmarks .now)) (a .root) (a .va .0) (g .0) (g .1) (λ q. c .if2 .taken (c .before .mark-at .ensures .0 ∙ q))
+    let f = c .before .before .before .judge-root .ensures .ready (c .before .before .if1 .left) in
+    no-6 (storeOf (a .words .now) (a .tmarks .now) (a .bytes .now) (a .fmarks .now)) (a .root) (a .va .0) f (c .if2 .taken)
+
+slot-of-requires : tie.Need-slot-of-requires
+slot-of-requires c κs =
+    let a = c .before .before .before .before .before .before .before .before .before .before .before .args in
+    let f = c .before .before .before .before .before .judge-root .ensures .ready (c .before .before .before .before .if1 .left) in
+    (root-in (storeOf (a .words .now) (a .tmarks .now) (a .bytes .now) (a .fmarks .now)) (a .root) (f .sized) (f .is-root), omega (arith, c .before .before .if2 .left))
 
 same-length-3 : tie.Need-same-length-3
 same-length-3 c = search needs
 
 returns-3 : tie.Need-returns-3
 returns-3 c =
-    let a = c .before .before .before .before .before .before .before .before .before .before .before .args in
-    let g = judged-ok _ (c .before .before .before .before .before .judge-store .result) (c .before .before .before .before .before .judge-store .ensures) (c .before .before .before .before .if1 .left) in
-    let r = sym (c .before .before .before .mark-at .ensures .0) ∙ c .before .before .if2 .left in
-    no-6 (storeOf (a .words .now) (a .tmarks .now) (a .bytes .now) (a .fmarks .now)) (a .root) (a .va .0) (g .0) (g .1) r (c .if3 .taken)
-
-slot-of-requires : tie.Need-slot-of-requires
-slot-of-requires c κs =
     let a = c .before .before .before .before .before .before .before .before .before .before .before .before .before .args in
-    let g = judged-ok _ (c .before .before .before .before .before .before .before .judge-store .result) (c .before .before .before .before .before .before .before .judge-store .ensures) (c .before .before .before .before .before .before .if1 .left) in
-    let r = sym (c .before .before .before .before .before .mark-at .ensures .0) ∙ c .before .before .before .before .if2 .left in
-    (root-in (storeOf (a .words .now) (a .tmarks .now) (a .bytes .now) (a .fmarks .now)) (a .root) (g .0) r, omega (arith, c .before .before .if3 .left))
-
-same-length-4 : tie.Need-same-length-4
-same-length-4 c = search needs
-
-returns-4 : tie.Need-returns-4
-returns-4 c =
-    let a = c .before .before .before .before .before .before .before .before .before .before .before .before .before .before .before .args in
-    let g = judged-ok _ (c .before .before .before .before .before .before .before .before .before .judge-store .result) (c .before .before .before .before .before .before .before .before .before .judge-store .ensures) (c .before .before .before .before .before .before .before .before .if1 .left) in
-    let r = sym (c .before .before .before .before .before .before .before .mark-at .ensures .0) ∙ c .before .before .before .before .before .before .if2 .left in
-    no-11 (storeOf (a .words .now) (a .tmarks .now) (a .bytes .now) (a .fmarks .now)) (a .root) (a .va .0) (g .0) (g .1) r (c .before .before .before .before .if3 .left) _ (c .before .slot-of .ensures) (c .if4 .taken)
+    let f = c .before .before .before .before .before .before .before .judge-root .ensures .ready (c .before .before .before .before .before .before .if1 .left) in
+    no-11 (storeOf (a .words .now) (a .tmarks .now) (a .bytes .now) (a .fmarks .now)) (a .root) (a .va .0) f (c .before .before .before .before .if2 .left) _ (c .before .slot-of .ensures) (c .if3 .taken)
 
 slot-word-requires : tie.Need-slot-word-requires
 slot-word-requires c κs = search needs
@@ -68,33 +51,29 @@ rm-user-bit-requires c κs = search needs
 put-slot-requires : tie.Need-put-slot-requires
 put-slot-requires c κs = search needs
 
-same-length-5 : tie.Need-same-length-5
-same-length-5 c = search needs
+same-length-4 : tie.Need-same-length-4
+same-length-4 c = search needs
 
-returns-5 : tie.Need-returns-5
-returns-5 c =
-    let a = c .before .before .before .before .before .before .before .before .before .before .before .before .before .before .before .before .before .before .before .before .before .before .args in
-    let g = judged-ok _ (c .before .before .before .before .before .before .before .before .before .before .before .before .before .before .before .before .judge-store .result) (c .before .before .before .before .before .before .before .before .before .before .before .before .before .before .before .before .judge-store .ensures) (c .before .before .before .before .before .before .before .before .before .before .before .before .before .before .before .if1 .left) in
-    let r = sym (c .before .before .before .before .before .before .before .before .before .before .before .before .before .before .mark-at .ensures .0) ∙ c .before .before .before .before .before .before .before .before .before .before .before .before .before .if2 .left in
-    done (storeOf (a .words .now) (a .tmarks .now) (a .bytes .now) (a .fmarks .now)) (a .root) (a .va .0) (g .0) (g .1) r (c .before .before .before .before .before .before .before .before .before .before .before .if3 .left) _ (c .before .before .before .before .before .before .before .before .slot-of .ensures) (c .before .before .before .before .before .before .before .if4 .left) _ _ _ (c .before .before .before .before .before .slot-word .ensures) (c .before .before .before .before .rm-user-bit .ensures .whole) (c .before .before .put-slot .ensures)
+returns-4 : tie.Need-returns-4
+returns-4 c =
+    let a = c .before .before .before .before .before .before .before .before .before .before .before .before .before .before .before .before .before .before .before .before .args in
+    let f = c .before .before .before .before .before .before .before .before .before .before .before .before .before .before .judge-root .ensures .ready (c .before .before .before .before .before .before .before .before .before .before .before .before .before .if1 .left) in
+    done (storeOf (a .words .now) (a .tmarks .now) (a .bytes .now) (a .fmarks .now)) (a .root) (a .va .0) f (c .before .before .before .before .before .before .before .before .before .before .before .if2 .left) _ (c .before .before .before .before .before .before .before .before .slot-of .ensures) (c .before .before .before .before .before .before .before .if3 .left) _ _ _ (c .before .before .before .before .before .slot-word .ensures) (c .before .before .before .before .rm-user-bit .ensures .whole) (c .before .before .put-slot .ensures)
 
 pub uvm-clear-spec : {M : Type 1} → statement M
 uvm-clear-spec =
     tie.close
     (tie.spec
-    judge-store-requires
+    judge-root-requires
     same-length
     returns
-    mark-at-requires
     same-length-2
     returns-2
+    slot-of-requires
     same-length-3
     returns-3
-    slot-of-requires
-    same-length-4
-    returns-4
     slot-word-requires
     rm-user-bit-requires
     put-slot-requires
-    same-length-5
-    returns-5)
+    same-length-4
+    returns-4)
