@@ -5,7 +5,7 @@ use Prim.Native.Nat.{ℕ, _-_, _/_, _%_, _^_, _≤_, _<_}
 use native.Mathlib.Omega.{arith}
 use Rattle.store.specs.Store.{Store, mark}
 use Rattle.store.specs.Outcome.{NoReason, Judges}
-use Rattle.store.proofs.Outcomes.{judges-no, then-judged}
+use Rattle.store.proofs.Outcomes.{judges-no, then-judged, JustThen, just-from, just-found, just-passed}
 use Rattle.well_formed.specs.Root.{RootReason, sizes, unformed, no-root, RootReady}
 use Rattle.well_formed.proofs.RootReasons.{root-upto, root-clear}
 use Rattle.walk.proofs.Calls.{root-in}
@@ -13,7 +13,6 @@ use Rattle.unmap.specs.Leave.{Asked}
 use Rattle.grow.specs.Fresh.{FreshReason, taken, no-frames, no-tables}
 use Rattle.grow.proofs.FreshReasons.{fresh-clear}
 use Rattle.copies.specs.Child.{ChildReason, at-parent, at-child, same, too-large, unaligned, unmapped, foreign, fresh, ChildReady}
-use Rattle.copies.proofs.InOrder.{Then, from, found, passed}
 use Rattle.copies.proofs.ChildPages.{PageReason, page-from, PagesReady}
 
 module _ (s : Store) (parent child size : ℕ) where
@@ -28,28 +27,28 @@ module _ (s : Store) (parent child size : ℕ) where
 
   -- the reasons from each number on
   abbrev From7 : ℕ → Type 0
-  From7 = Then 7 (size % 4096 ≡ 0 → ⊥) Pages
+  From7 = JustThen 7 (size % 4096 ≡ 0 → ⊥) Pages
 
   abbrev From6 : ℕ → Type 0
-  From6 = Then 6 (2 ^ 38 < size) From7
+  From6 = JustThen 6 (2 ^ 38 < size) From7
 
   abbrev From4 : ℕ → Type 0
-  From4 = Then 4 (child ≡ parent) From6
+  From4 = JustThen 4 (child ≡ parent) From6
 
   abbrev From3 : ℕ → Type 0
-  From3 = Then 3 (mark (s .tmarks) child ≡ 1 → ⊥) From4
+  From3 = JustThen 3 (mark (s .tmarks) child ≡ 1 → ⊥) From4
 
   above7 : (k : ℕ) → Pages k → 7 < k
   above7 k h = omega (arith, page-from s parent child (size / 4096) k h)
 
   above6 : (k : ℕ) → From7 k → 6 < k
-  above6 k h = omega (arith, from 7 (size % 4096 ≡ 0 → ⊥) above7 k h)
+  above6 k h = omega (arith, just-from 7 (size % 4096 ≡ 0 → ⊥) above7 k h)
 
   above4 : (k : ℕ) → From6 k → 4 < k
-  above4 k h = omega (arith, from 6 (2 ^ 38 < size) above6 k h)
+  above4 k h = omega (arith, just-from 6 (2 ^ 38 < size) above6 k h)
 
   above3 : (k : ℕ) → From4 k → 3 < k
-  above3 k h = omega (arith, from 4 (child ≡ parent) above4 k h)
+  above3 k h = omega (arith, just-from 4 (child ≡ parent) above4 k h)
 
   -- ---- each reason is one of these
 
@@ -98,7 +97,7 @@ module _ (s : Store) (parent child size : ℕ) where
       let m = q .reason h in
       judges-no R F n h (record {
         applies = at-parent (m .applies);
-        least = λ k l x. ⊎-elim (m .least k l) (λ b. omega (arith, root-upto (m .applies), from 3 (mark (s .tmarks) child ≡ 1 → ⊥) above3 k b)) (split k x);
+        least = λ k l x. ⊎-elim (m .least k l) (λ b. omega (arith, root-upto (m .applies), just-from 3 (mark (s .tmarks) child ≡ 1 → ⊥) above3 k b)) (split k x);
       })
 
   module _ (r : RootReady s parent) where
@@ -106,28 +105,28 @@ module _ (s : Store) (parent child size : ℕ) where
     to3 = then-judged F split join (root-clear s parent r) (λ f. f)
 
     pub no-3 : (mark (s .tmarks) child ≡ 1 → ⊥) → Judges R F 3
-    no-3 h = to3 3 (found 3 (mark (s .tmarks) child ≡ 1 → ⊥) above3 (omega arith) h)
+    no-3 h = to3 3 (just-found 3 (mark (s .tmarks) child ≡ 1 → ⊥) above3 (omega arith) h)
 
     module _ (c : mark (s .tmarks) child ≡ 1) where
       to4 : (n : ℕ) → Judges From4 F n → Judges R F n
-      to4 n q = to3 n (passed 3 (mark (s .tmarks) child ≡ 1 → ⊥) (λ h. h c) n q)
+      to4 n q = to3 n (just-passed 3 (mark (s .tmarks) child ≡ 1 → ⊥) (λ h. h c) n q)
 
       pub no-4 : child ≡ parent → Judges R F 4
-      no-4 h = to4 4 (found 4 (child ≡ parent) above4 (omega arith) h)
+      no-4 h = to4 4 (just-found 4 (child ≡ parent) above4 (omega arith) h)
 
       module _ (a : child ≡ parent → ⊥) where
         to6 : (n : ℕ) → Judges From6 F n → Judges R F n
-        to6 n q = to4 n (passed 4 (child ≡ parent) a n q)
+        to6 n q = to4 n (just-passed 4 (child ≡ parent) a n q)
 
         pub no-6 : 2 ^ 38 < size → Judges R F 6
-        no-6 h = to6 6 (found 6 (2 ^ 38 < size) above6 (omega arith) h)
+        no-6 h = to6 6 (just-found 6 (2 ^ 38 < size) above6 (omega arith) h)
 
         module _ (z : size ≤ 2 ^ 38) where
           to7 : (n : ℕ) → Judges From7 F n → Judges R F n
-          to7 n q = to6 n (passed 6 (2 ^ 38 < size) (λ h. omega arith) n q)
+          to7 n q = to6 n (just-passed 6 (2 ^ 38 < size) (λ h. omega arith) n q)
 
           pub no-7 : (size % 4096 ≡ 0 → ⊥) → Judges R F 7
-          no-7 h = to7 7 (found 7 (size % 4096 ≡ 0 → ⊥) above7 (omega arith) h)
+          no-7 h = to7 7 (just-found 7 (size % 4096 ≡ 0 → ⊥) above7 (omega arith) h)
 
           -- what the counts and the judge of fresh pages ask
           pub may-count : (child < 512) × (parent < 512) × (size / 4096 ≤ 2 ^ 26)

@@ -13,7 +13,6 @@ pub mod TextReasons
 pub mod TextLaws
 pub mod FrameCopy
 pub mod PageBytes
-pub mod InOrder
 pub mod ChildPages
 pub mod ChildReasons
 pub mod Spared

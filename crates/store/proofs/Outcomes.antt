@@ -1,7 +1,7 @@
 -- Two outcomes of one call are the same, whatever the call; and what a judge of several parts answers. Assumes nothing.
 use mathlib.Core.Path.{_≡_, refl, sym, ap, _∙_}
-use mathlib.Core.Logic.{_⊎_, ⊎-elim, by-cases}
-use Prim.Native.Nat.{ℕ, _<_}
+use mathlib.Core.Logic.{_⊎_, inl, inr, ⊎-elim, by-cases}
+use Prim.Native.Nat.{ℕ, _≤_, _<_}
 use native.Mathlib.Decide.{decLt}
 use native.Mathlib.Omega.{arith}
 use Rattle.store.specs.Outcome.{Smallest, NoReason, Outcome, Judges}
@@ -47,9 +47,24 @@ module _ {A B R : ℕ → Type 0} (F : Type 0) (split : (k : ℕ) → R k → A 
     reason = λ h. let m = q .reason h in record { applies = up n (m .applies); least = λ k l x. ⊎-elim (none k) (m .least k l) (split k x) };
   }
 
--- a judge of one reason, number n for P
+-- a judge that found the one reason, number n for P
 pub just-no : (n : ℕ) (P G : Type 0) → (n ≡ 0 → ⊥) → P → Judges (Just n P) G n
 just-no n P G h p = judges-no (Just n P) G n h (record { applies = (refl, p); least = λ k l q. omega (arith, q .0) })
 
-pub just-ok : (n : ℕ) (P : Type 0) → (P → ⊥) → Judges (Just n P) (P → ⊥) 0
-just-ok n P h = judges-ok (Just n P) (P → ⊥) 0 refl h
+-- ---- reasons in a row: P with number n, and then those of B, with larger numbers
+
+abbrev pub JustThen : ℕ → Type 0 → (ℕ → Type 0) → ℕ → Type 0
+JustThen n P B k = Just n P k ⊎ B k
+
+module _ (n : ℕ) (P : Type 0) {B : ℕ → Type 0} where
+  pub just-from : ((k : ℕ) → B k → n < k) → (k : ℕ) → JustThen n P B k → n ≤ k
+  just-from above k = ⊎-elim (λ h. omega (arith, h .0)) (λ b. omega (arith, above k b))
+
+  module _ {F : Type 0} where
+    -- P is found
+    pub just-found : ((k : ℕ) → B k → n < k) → (n ≡ 0 → ⊥) → P → Judges (JustThen n P B) F n
+    just-found above h p = first-no F (λ k x. x) (λ k. inl) (λ j k a b. omega (arith, a .0, above k b)) n h (just-no n P F h p .reason h)
+
+    -- it is not, and the others are judged
+    pub just-passed : (P → ⊥) → (m : ℕ) → Judges B F m → Judges (JustThen n P B) F m
+    just-passed h = then-judged F (λ k x. x) (λ k. inr) (λ k x. h (x .1)) (λ f. f)
