@@ -1,23 +1,17 @@
 -- What each way out of `uvm_dealloc` says, that two answers to one call are the same, and what a success means. Assumes nothing.
 use mathlib.Core.Path.{_≡_, refl, sym, ap, _∙_, subst, subst₂}
-use mathlib.Core.Logic.{by-cases}
 use mathlib.Core.Bool.{true, cond}
-use Prim.Native.Nat.{ℕ, _+_, _-_, _≤_, _<_}
-use native.Mathlib.Decide.{ℕ-discrete}
+use Prim.Native.Nat.{ℕ, _-_, _≤_, _<_}
 use native.Mathlib.Omega.{arith}
 use lib.Dec.{leb}
-use Rattle.address.specs.Field.{bit}
-use Rattle.page_table_entry.specs.Layout.{bitV}
 use Rattle.store.specs.Store.{Store}
-use Rattle.store.specs.Walk.{resolve}
 use Rattle.store.specs.Outcome.{Judges}
 use Rattle.store.specs.declared.Answer.{Answer}
 use Rattle.store.specs.declared.Answer.the-variants.{Refused, Done}
 use Rattle.store.proofs.Outcomes.{one-outcome}
-use Rattle.unmap.specs.Leave.{pooled, unmapped, bare, leavePages, Asked, CanLeave}
+use Rattle.unmap.specs.Leave.{leavePages, Asked, CanLeave}
 use Rattle.unmap.specs.Gone.{Gone}
-use Rattle.unmap.proofs.LeavePages.{leavable}
-use Rattle.unmap.proofs.GoneLaws.{pages-gone}
+use Rattle.unmap.proofs.GoneLaws.{left-gone}
 use Rattle.grow.specs.Sizes.{pagesTo}
 use Rattle.grow.specs.Shrink.{lost, ShrinkReason, pages, ShrinkReady, ShrinkDone, Shrink}
 use Rattle.grow.proofs.ShrinkReasons.{asked, clear}
@@ -47,12 +41,4 @@ module _ (s : Store) (root old new : ℕ) where
   -- what a success means, where pages may be asked about: exactly the pages that new bytes do not take are gone
   pub shrink-gone : (v : ℕ) (s′ : Store) → Asked s root (pagesTo new) (lost old new) → Shrink s root old new (Done v) s′ → Gone s root (pagesTo new) (lost old new) true s′
   shrink-gone v s′ a u =
-      let q = leavable s root (pagesTo new) (lost old new) true (record {
-        asked = a;
-        ready = record {
-          foreign = λ m. u .0 10 (pages (pooled m));
-          mapped = λ i l. by-cases (ℕ-discrete (bit bitV (resolve s root (pagesTo new + i))) 1) (λ y. y) (λ y. absurd (u .0 11 (pages (unmapped i l y))));
-          full = λ i l b. u .0 13 (pages (bare i l b));
-        };
-      }) in
-      subst (Gone s root (pagesTo new) (lost old new) true) (sym (u .1 .1)) (pages-gone (lost old new) s root (pagesTo new) true q)
+      subst (Gone s root (pagesTo new) (lost old new) true) (sym (u .1 .1)) (left-gone s root (pagesTo new) (lost old new) true a (λ k x. u .0 k (pages x)))

@@ -8,7 +8,7 @@ use Rattle.store.specs.Store.{Store}
 use Rattle.store.specs.Outcome.{NoReason, Judges}
 use Rattle.store.proofs.Outcomes.{judges-ok, first-no, then-judged}
 use Rattle.unmap.specs.Leave.{Asked, LeaveReason, LeaveReady}
-use Rattle.unmap.proofs.UnmapReasons.{leave-range, leave-clear}
+use Rattle.unmap.proofs.UnmapReasons.{leave-range, leave-clear, leave-none}
 use Rattle.grow.specs.Sizes.{pagesTo, SizeReason, SizeReady}
 use Rattle.grow.specs.Shrink.{lost, ShrinkReason, sizes, pages, ShrinkReady}
 use Rattle.grow.proofs.SizeReasons.{size-upto, size-clear}
@@ -38,11 +38,7 @@ module _ (s : Store) (root old new : ℕ) where
         (subst₂ (λ (x y : ℕ). Judges (LeaveReason s root x (y - x) true) (LeaveReady s root x (y - x) true) n) ef ee q)
 
     pub no-pages : end ≤ first → Judges R F 0
-    no-pages h =
-        judges-ok R F 0 refl (record {
-          sizes = z;
-          pages = record { foreign = λ m. omega (arith, m .2, ef, ee); mapped = λ i l. absurd (omega (arith, ef, ee)); full = λ i l. absurd (omega (arith, ef, ee)) };
-        })
+    no-pages h = judges-ok R F 0 refl (record { sizes = z; pages = leave-none s root (pagesTo new) (lost old new) true (omega (arith, ef, ee)) })
 
   -- where the call is ready no reason applies
   pub clear : F → NoReason R

@@ -13,7 +13,7 @@ use Rattle.grow.specs.Sizes.{pagesTo, SizeReason, SizeReady}
 abbrev pub lost : ℕ → ℕ → ℕ
 lost old new = pagesTo old - pagesTo new
 
--- 1, 2, 3, 6; 11 or 13 for one of these pages
+-- 1, 2, 3, 6; 11 or 13 for one of these pages, which leave with freeing, so that 10 never applies
 pub data ShrinkReason (s : Store) (root old new : ℕ) : ℕ → Type 0 where
   sizes : {k : ℕ} → SizeReason s root old new k → ShrinkReason s root old new k
   pages : {k : ℕ} → LeaveReason s root (pagesTo new) (lost old new) true k → ShrinkReason s root old new k

@@ -12,7 +12,7 @@ use Rattle.well_formed.specs.Root.{RootReady}
 use Rattle.unmap.specs.Leave.{LeaveReason, LeaveReady, leavePages, Asked, CanLeave}
 use Rattle.unmap.specs.Unmap.{UnmapReason, UnmapReady}
 use Rattle.unmap.proofs.UnmapReasons.{by-pages}
-use Rattle.unmap.proofs.UnmapLaws.{refuse, may-leave, done-all}
+use Rattle.unmap.proofs.UnmapLaws.{refuse, may-leave, left-done}
 use Rattle.release.specs.Parts.{Then, UvmFree, UnmapOne, trampoline, trapframe, SharedFree, ProcFree}
 use Rattle.release.specs.PartsReady.{JudgesParts, RestReady, PageReady, SharedReady, ProcReady, Cut, JudgesRest}
 use Rattle.release.proofs.LeaveSame.{SamePages, judges-same}
@@ -29,13 +29,7 @@ module _ (root va : ℕ) (aligned : va % 4096 ≡ 0) (Q : Store → Answer → S
 
   module _ (c : CanLeave s root (va / 4096) 1 false) where
     gone : UnmapOne root va s (Done 0) t
-    gone =
-        done-all s root va 1 false (record {
-          at-root = record { sized = c .asked .sized; formed = c .asked .formed; is-root = c .asked .is-root };
-          below = λ h. omega (arith, h .1, h .2, c .asked .pages);
-          aligned = aligned;
-          pages = c .ready;
-        }) t refl
+    gone = left-done s root va 1 false aligned c
 
     page-then : (F : Store → Type 0) (k : ℕ) → JudgesParts Q F t k → JudgesParts (Then (UnmapOne root va) Q) (PageReady root (va / 4096) F) s k
     page-then F k j = record {

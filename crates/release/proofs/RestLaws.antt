@@ -26,7 +26,7 @@ use Rattle.unmap.specs.Leave.{LeaveReason, pooled, unmapped, bare, LeaveReady, 
 use Rattle.unmap.specs.Unmap.{Unmap}
 use Rattle.unmap.specs.Gone.{Gone}
 use Rattle.unmap.proofs.UnmapReasons.{no-6, by-pages}
-use Rattle.unmap.proofs.UnmapLaws.{refuse, done-all}
+use Rattle.unmap.proofs.UnmapLaws.{refuse, left-done}
 use Rattle.unmap.proofs.LeavePages.{leavable}
 use Rattle.unmap.proofs.GoneLaws.{pages-gone}
 use Rattle.grow.specs.Sizes.{pagesTo}
@@ -54,13 +54,7 @@ module _ (root size : ℕ) (s : Store) (c : CanLeave s root 0 (pagesTo size) tru
 
   -- the first of the two parts
   first-done : Unmap s root 0 (pagesTo size) true (Done 0) (left root size s)
-  first-done =
-      done-all s root 0 (pagesTo size) true (record {
-        at-root = record { sized = c .asked .sized; formed = c .asked .formed; is-root = c .asked .is-root };
-        below = λ h. omega (arith, h .1, h .2, c .asked .pages);
-        aligned = refl;
-        pages = c .ready;
-      }) (left root size s) refl
+  first-done = left-done s root 0 (pagesTo size) true refl c
 
 -- ---- the answer, from those of the two parts
 

@@ -11,11 +11,13 @@ use lib.ListN.{length, List·getD-eq-default}
 use Rattle.store.specs.Store.{Store, mark, frameNo, poolNo}
 use Rattle.store.specs.Count.{freeFrames}
 use Rattle.store.specs.Walk.{resolve}
+use Rattle.store.specs.Outcome.{NoReason}
 use Rattle.store.proofs.Tree.{top, well-formed-of}
-use Rattle.unmap.specs.Leave.{leavePage, leavePages}
+use Rattle.unmap.specs.Leave.{LeaveReason, leavePage, leavePages, Asked}
 use Rattle.unmap.specs.Gone.{inPool, poolPages, Gone}
 use Rattle.unmap.proofs.LeavePage.{Left}
-use Rattle.unmap.proofs.LeavePages.{Leavable, first-left, others-may}
+use Rattle.unmap.proofs.LeavePages.{Leavable, leavable, first-left, others-may}
+use Rattle.unmap.proofs.UnmapReasons.{leave-where}
 
 -- a frame that is free stays free
 stays : (s s′ : Store) (r p : ℕ) (freeing : Bool) → Left s s′ r p freeing → (f : ℕ) → mark (s .fmarks) f ≡ 0 → mark (s′ .fmarks) f ≡ 0
@@ -116,3 +118,7 @@ pages-gone zero s r p freeing c = none-gone s r p freeing c
 pages-gone (suc n) s r p freeing c =
     let o = others-may n s r p freeing c in
     then n s r p freeing c (leavePages (leavePage s r p freeing) r (suc p) n freeing) (pages-gone n (leavePage s r p freeing) r (suc p) freeing o) (stay n (leavePage s r p freeing) r (suc p) freeing o)
+
+-- what it means where no reason speaks against it
+pub left-gone : (s : Store) (r p n : ℕ) (freeing : Bool) → Asked s r p n → NoReason (LeaveReason s r p n freeing) → Gone s r p n freeing (leavePages s r p n freeing)
+left-gone s r p n freeing a none = pages-gone n s r p freeing (leavable s r p n freeing (record { asked = a; ready = leave-where s r p n freeing none }))

@@ -3,10 +3,13 @@ use mathlib.Core.Path.{_≡_, refl}
 use mathlib.Core.Bool.{Bool}
 use Prim.Native.Nat.{ℕ, suc, _+_, _-_, _/_, _%_, _^_, _≤_, _<_}
 use native.Mathlib.Nat.{le-refl}
-use native.Mathlib.Decide.{decLe}
+use native.Mathlib.Decide.{ℕ-discrete, decLe}
 use mathlib.Core.Logic.{_⊎_, inl, inr, by-cases}
 use native.Mathlib.Omega.{arith}
+use Rattle.address.specs.Field.{bit}
+use Rattle.page_table_entry.specs.Layout.{bitV}
 use Rattle.store.specs.Store.{Store}
+use Rattle.store.specs.Walk.{resolve}
 use Rattle.store.specs.Outcome.{Smallest, NoReason, Judges}
 use Rattle.store.proofs.Outcomes.{judges-no, judges-ok}
 use Rattle.well_formed.specs.Root.{RootReason, RootReady}
@@ -29,6 +32,18 @@ pub leave-clear : {s : Store} {r p n : ℕ} {freeing : Bool} → LeaveReady s r 
 leave-clear f k (pooled h) = f .foreign h
 leave-clear f k (unmapped i l h) = h (f .mapped i l)
 leave-clear f k (bare i l h) = f .full i l h
+
+-- and where none applies they are ready
+pub leave-where : (s : Store) (r p n : ℕ) (freeing : Bool) → NoReason (LeaveReason s r p n freeing) → LeaveReady s r p n freeing
+leave-where s r p n freeing none = record {
+  foreign = λ m. none 10 (pooled m);
+  mapped = λ i l. by-cases (ℕ-discrete (bit bitV (resolve s r (p + i))) 1) (λ y. y) (λ y. absurd (none 11 (unmapped i l y)));
+  full = λ i l b. none 13 (bare i l b);
+}
+
+-- no pages are always ready
+pub leave-none : (s : Store) (r p n : ℕ) (freeing : Bool) → n ≡ 0 → LeaveReady s r p n freeing
+leave-none s r p n freeing h = record { foreign = λ m. omega (arith, m .2); mapped = λ i l. absurd (omega arith); full = λ i l. absurd (omega arith) }
 
 module _ (s : Store) (root va n : ℕ) (freeing : Bool) where
   abbrev R : ℕ → Type 0
@@ -76,11 +91,7 @@ module _ (s : Store) (root va n : ℕ) (freeing : Bool) where
 
         pub nothing : n ≡ 0 → Judges R F 0
         nothing h =
-            judges-ok R F 0 refl (ready (record {
-              foreign = λ m. omega (arith, m .2);
-              mapped = λ i l. absurd (omega arith);
-              full = λ i l. absurd (omega arith);
-            }))
+            judges-ok R F 0 refl (ready (leave-none s root (va / 4096) n freeing h))
 
         pub by-pages : (j : ℕ) → Judges L (LeaveReady s root (va / 4096) n freeing) j → Judges R F j
         by-pages j q = record {
