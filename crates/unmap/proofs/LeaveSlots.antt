@@ -11,7 +11,7 @@ use Rattle.store.specs.Walk.{slotWord}
 use Rattle.store.proofs.Tree.{slot-word}
 use Rattle.map.specs.Enter.{putSlot}
 use Rattle.map.proofs.Slots.{put-in}
-use Rattle.unmap.specs.Leave.{givenBack, leaveSlot, leaveRun, Becomes}
+use Rattle.unmap.specs.Leave.{givenBack, leaveSlot, leaveRun, FramesBecome}
 
 -- a frame below the pool, and one from its start on
 pub given-none : (fs : List ℕ) (e : ℕ) → frameNo e < 0x11_0000 → fs ≡ givenBack fs e
@@ -24,12 +24,12 @@ given-one fs e h = rw (le-leb 0x11_0000 (frameNo e) h)
 
 -- one slot, with freeing and without
 module _ (ws fs : List ℕ) (m e : ℕ) (h : 2 ≤ m) where
-  pub slot-freed : (freeing : Bool) (fs′ : List ℕ) → freeing ≡ true → e ≡ slotWord ws m → fs′ ≡ givenBack fs e → Becomes ws fs (λ s. leaveSlot s m freeing) (set ws (m - 2) 0) fs′
+  pub slot-freed : (freeing : Bool) (fs′ : List ℕ) → freeing ≡ true → e ≡ slotWord ws m → fs′ ≡ givenBack fs e → FramesBecome ws fs (λ s. leaveSlot s m freeing) (set ws (m - 2) 0) fs′
   unfolding leaveSlot
   slot-freed freeing fs′ f q k ms bs =
       (λ i. storeOf (put-in ws m 0 h i) ms bs ((k ∙ ap (givenBack fs) q) i)) ∙ ap (λ (b : Bool). storeOf (putSlot ws m 0) ms bs (cond b (givenBack fs (slotWord ws m)) fs)) (sym f)
 
-  pub slot-kept : (freeing : Bool) → freeing ≡ false → Becomes ws fs (λ s. leaveSlot s m freeing) (set ws (m - 2) 0) fs
+  pub slot-kept : (freeing : Bool) → freeing ≡ false → FramesBecome ws fs (λ s. leaveSlot s m freeing) (set ws (m - 2) 0) fs
   unfolding leaveSlot
   slot-kept freeing f ms bs =
       (λ i. storeOf (put-in ws m 0 h i) ms bs fs) ∙ ap (λ (b : Bool). storeOf (putSlot ws m 0) ms bs (cond b (givenBack fs (slotWord ws m)) fs)) (sym f)
@@ -45,7 +45,7 @@ run-start ws fs m n freeing ms bs =
     ap₂ (λ (x y : ℕ). leaveRun (storeOf ws ms bs fs) x y freeing) a b
 
 pub run-next : (ws₀ fs₀ : List ℕ) (m n : ℕ) (freeing : Bool) (ws fs : List ℕ) (i : ℕ) (ws′ fs′ : List ℕ) → Going ws₀ fs₀ m n freeing ws fs i → i < n
-    → Becomes ws fs (λ s. leaveSlot s (m + i) freeing) ws′ fs′ → Going ws₀ fs₀ m n freeing ws′ fs′ (i + 1)
+    → FramesBecome ws fs (λ s. leaveSlot s (m + i) freeing) ws′ fs′ → Going ws₀ fs₀ m n freeing ws′ fs′ (i + 1)
 unfolding leaveRun
 run-next ws₀ fs₀ m n freeing ws fs i ws′ fs′ g l b ms bs =
     let k : n - i ≡ suc (n - (i + 1)) = omega arith in
@@ -54,7 +54,7 @@ run-next ws₀ fs₀ m n freeing ws fs i ws′ fs′ g l b ms bs =
     ∙ ap (λ (x : Store). leaveRun x (suc (m + i)) (n - (i + 1)) freeing) (sym (b ms bs))
     ∙ ap (λ (x : ℕ). leaveRun (storeOf ws′ ms bs fs′) x (n - (i + 1)) freeing) a
 
-pub run-done : (ws₀ fs₀ : List ℕ) (m n : ℕ) (freeing : Bool) (ws fs : List ℕ) (i : ℕ) → Going ws₀ fs₀ m n freeing ws fs i → n ≤ i → Becomes ws₀ fs₀ (λ s. leaveRun s m n freeing) ws fs
+pub run-done : (ws₀ fs₀ : List ℕ) (m n : ℕ) (freeing : Bool) (ws fs : List ℕ) (i : ℕ) → Going ws₀ fs₀ m n freeing ws fs i → n ≤ i → FramesBecome ws₀ fs₀ (λ s. leaveRun s m n freeing) ws fs
 unfolding leaveRun
 run-done ws₀ fs₀ m n freeing ws fs i g l ms bs = let k : n - i ≡ 0 = omega arith in sym (g ms bs ∙ ap (λ (x : ℕ). leaveRun (storeOf ws ms bs fs) (m + i) x freeing) k)
 

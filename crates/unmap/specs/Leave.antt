@@ -74,5 +74,5 @@ leaveRun s m zero freeing = s
 leaveRun s m (suc n) freeing = leaveRun (leaveSlot s m freeing) (suc m) n freeing
 
 -- words ws and frame marks fs have become ws′ and fs′ as f makes them of a store, whatever else it holds
-abbrev pub Becomes : List ℕ → List ℕ → (Store → Store) → List ℕ → List ℕ → Type 0
-Becomes ws fs f ws′ fs′ = (ms bs : List ℕ) → storeOf ws′ ms bs fs′ ≡ f (storeOf ws ms bs fs)
+abbrev pub FramesBecome : List ℕ → List ℕ → (Store → Store) → List ℕ → List ℕ → Type 0
+FramesBecome ws fs f ws′ fs′ = (ms bs : List ℕ) → storeOf ws′ ms bs fs′ ≡ f (storeOf ws ms bs fs)

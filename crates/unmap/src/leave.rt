@@ -3,7 +3,7 @@ ghost use mathlib.Core.Path.{_≡_};
 ghost use Prim.Native.Nat.{_+_, _<_, _≤_};
 ghost use lib.ListN.{length};
 ghost use Rattle.store.specs.Store.{Store, storeOf};
-ghost use Rattle.unmap.specs.Leave.{givenBack, leaveSlot, leaveRun, leavePages, Becomes, CanLeave};
+ghost use Rattle.unmap.specs.Leave.{givenBack, leaveSlot, leaveRun, leavePages, FramesBecome, CanLeave};
 
 // Entry e has gone: the pool frame that it names, if it names one, is free again.
 fn give_back(fmarks: &mut [u32], e: u64)
@@ -19,7 +19,7 @@ fn give_back(fmarks: &mut [u32], e: u64)
 // The word in slot m becomes 0; with freeing, its pool frame is given back.
 fn leave_slot(words: &mut [u64], fmarks: &mut [u32], m: usize, freeing: bool)
     requires { ⌜ (2 ≤ m) × (m < 2 + length (now words)) ⌝ }
-    ensures { λ _. ⌜ Becomes (now (words .entry)) (now (fmarks .entry)) (λ (s : Store). leaveSlot s m freeing) (now (words .exit)) (now (fmarks .exit)) ⌝ }
+    ensures { λ _. ⌜ FramesBecome (now (words .entry)) (now (fmarks .entry)) (λ (s : Store). leaveSlot s m freeing) (now (words .exit)) (now (fmarks .exit)) ⌝ }
 {
     let e = words[m - 2];
     words[m - 2] = 0;
@@ -31,7 +31,7 @@ fn leave_slot(words: &mut [u64], fmarks: &mut [u32], m: usize, freeing: bool)
 // The same for n slots from slot m on.
 fn leave_run(words: &mut [u64], fmarks: &mut [u32], m: usize, n: usize, freeing: bool)
     requires { ⌜ (2 ≤ m) × (m + n ≤ 2 + length (now words)) ⌝ }
-    ensures { λ _. ⌜ Becomes (now (words .entry)) (now (fmarks .entry)) (λ (s : Store). leaveRun s m n freeing) (now (words .exit)) (now (fmarks .exit)) ⌝ }
+    ensures { λ _. ⌜ FramesBecome (now (words .entry)) (now (fmarks .entry)) (λ (s : Store). leaveRun s m n freeing) (now (words .exit)) (now (fmarks .exit)) ⌝ }
 {
     let mut i = 0;
     while i < n {
