@@ -23,11 +23,11 @@ use Rattle.copies.specs.declared.StrAnswer.{StrAnswer}
 use Rattle.copies.specs.declared.StrAnswer.the-variants.{Read, Refused}
 use Rattle.copies.proofs.BytesLaws.{bytes-length, bytes-get}
 use Rattle.copies.proofs.StrLaws.{zero-met, str-le, str-before, str-zero}
-use Rattle.copies.proofs.TextReasons.{root-first, str-pages}
+use Rattle.copies.proofs.TextReasons.{by-root, str-pages}
 
 module _ (s : Store) (root va : ℕ) (dst : List ℕ) where
   pub refuse-root : (k : ℕ) → Judges (RootReason s root) (RootReady s root) k → (k ≡ 0 → ⊥) → Str s root va dst (Refused k) dst
-  refuse-root k j h = (root-first s root va (length dst) k (j .reason h), refl)
+  refuse-root k j h = (by-root s root va (length dst) k (j .reason h), refl)
 
   module _ (k n : ℕ) (met : Bool) (m : Measures s root va (length dst) k n met) where
     pub refuse-way : (k ≡ 0 → ⊥) → Str s root va dst (Refused k) dst

@@ -1,4 +1,5 @@
 // A process's pages for its child, after `uvm_copy` of page_table.rs: judged whole, then done.
+use super::needed;
 use store::Answer;
 ghost use mathlib.Core.Path.{_≡_};
 ghost use Prim.Native.Nat.{_+_, _*_, _/_, _≤_};
@@ -8,13 +9,6 @@ ghost use Rattle.store.specs.Store.{storeOf};
 ghost use Rattle.grow.specs.Fill.{framed};
 ghost use Rattle.grow.specs.Fresh.{freshPages};
 ghost use Rattle.copies.specs.Child.{pageFlags, pageBytes, ChildReason, ChildReady, Child};
-
-const MAXVA: u64 = 1 << 38;
-
-// A word whose bits from 27 on are 8 names a frame of the held window.
-const FRAME_PART: u64 = 0xFFFF_FFFF_F800_0000;
-
-const WINDOW: u64 = 0x4000_0000;
 
 fn judge_child(
     words: &[u64],
@@ -40,7 +34,7 @@ fn judge_child(
     if child == parent {
         return 4;
     }
-    if size > MAXVA {
+    if size > needed::MAXVA {
         return 6;
     }
     if size % 4096 != 0 {
@@ -53,7 +47,16 @@ fn judge_child(
     if walk::count_pages(words, child as usize, 0, n, 1, 1) != 0 {
         return 14;
     }
-    if walk::count_pages(words, parent as usize, 0, n, FRAME_PART, WINDOW) < n {
+    if walk::count_pages(
+        words,
+        parent as usize,
+        0,
+        n,
+        needed::FRAME_PART,
+        needed::WINDOW,
+    )
+        < n
+    {
         return 15;
     }
     grow::judge_fresh(words, tmarks, bytes, fmarks, child as usize, 0, n)

@@ -13,9 +13,9 @@ const V: u64 = 1;
 
 const U: u64 = 16;
 
-const FRAME_PART: u64 = 0xFFFF_FFFF_F800_0000;
+pub const FRAME_PART: u64 = 0xFFFF_FFFF_F800_0000;
 
-const WINDOW: u64 = 0x4000_0000;
+pub const WINDOW: u64 = 0x4000_0000;
 
 // 6, 11, 12 or 15, or 0, for the page of address a.
 pub fn judge_page(
