@@ -1,13 +1,10 @@
 // Fresh frames for pages: the judge of a range, and the taking of the lowest free frame for a page.
-ghost use mathlib.Core.Path.{_≡_};
 ghost use Prim.Native.Nat.{_+_, _-_, _^_, _≤_, _<_};
-ghost use lib.ListN.{length, set};
+ghost use lib.ListN.{length};
 ghost use Rattle.store.specs.Count.{lowest};
 ghost use Rattle.store.specs.Outcome.{Judges};
 ghost use Rattle.store.specs.Store.{storeOf};
-ghost use Rattle.map.specs.Enter.{putSlot};
 ghost use Rattle.unmap.specs.Leave.{Asked};
-ghost use Rattle.grow.specs.Fill.{poolEntry};
 ghost use Rattle.grow.specs.Fresh.{FreshReason, FreshReady, FrameFits, FrameEntered, FrameTaken};
 
 // 14, 16 or 17, or 0, for the pages from first up to end.

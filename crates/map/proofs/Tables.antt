@@ -1,4 +1,4 @@
--- A tree of tables in which one table changes: it is hung, made a root, or dropped. Assumes nothing.
+-- A tree of tables in which one table changes: it is hung, or made a root. Assumes nothing.
 use mathlib.Core.Path.{_≡_, refl, sym, ap, _∙_, subst, fun-ext}
 use mathlib.Core.List.{List}
 use Prim.Native.Nat.{ℕ, zero, suc, _+_, _-_, _%_, _≤_, _<_}
@@ -109,49 +109,4 @@ module _ (a k k′ f lv lv′ : ℕ → ℕ) (t : ℕ) (w : Tree a k f lv) (uk :
         (q .0, uk .other (tableOf (a x)) (λ e. omega (arith, ap k e, q .1, two w x p)) ∙ q .1);
     leaf = λ x p l. w .leaf x p (omega (arith, root-kept (home x) (w .used x p)));
     pool = λ j p. let q = w .pool j p in (root-kept (home (f j)) (omega (arith, q .0)) ∙ q .0, q .1);
-  }
-
--- ---- a table without words is dropped: from the slot that its mark names or, where that is 1, from the roots
-
-module _ (a a′ k k′ f lv lv′ : ℕ → ℕ) (t : ℕ) (w : Tree a k f lv) (ua : Upd a a′ (k t) 0) (uk : Upd k k′ t 0) (ul : Upd lv lv′ t 3)
-    (empty : (x : ℕ) → home x ≡ t → a x ≡ 0) where
-  -- a word that is still there afterwards
-  left : (x : ℕ) → 0 < a′ x → (x ≡ k t → ⊥) × (a′ x ≡ a x) × (0 < a x) × (lv′ (home x) ≡ lv (home x))
-  left x p =
-      let n : x ≡ k t → ⊥ = λ e. omega (arith, ua .same, ap a′ e) in
-      let e : a′ x ≡ a x = ua .other x n in
-      (n, e, omega arith, ul .other (home x) (λ c. omega (arith, empty x c)))
-
-  -- which is every word but 0 and the one that points to t
-  stays : (x : ℕ) → 0 < a x → (x ≡ k t → ⊥) → (a′ x ≡ a x) × (lv′ (home x) ≡ lv (home x))
-  stays x p n = (ua .other x n, ul .other (home x) (λ c. omega (arith, empty x c)))
-
-  not-own : (x : ℕ) → (x ≡ t → ⊥) → 2 ≤ k x → k x ≡ k t → ⊥
-  not-own x n h e = let p = w .link x h in n (omega (arith, p .0, w .link t (omega arith) .0, ap a e))
-
-  shrinks : (x : ℕ) → a′ x ≤ a x
-  shrinks = at-or (k t) (omega (arith, ua .same)) (λ x n. omega (arith, ua .other x n))
-
-  pub tree-dropped : Tree a′ k′ f lv′
-  tree-dropped = record {
-    none = omega (arith, w .none, shrinks 0, shrinks 1);
-    free = at-or t (λ h. ul .same) (λ x n h. omega (arith, ul .other x n, w .free x (omega (arith, uk .other x n))));
-    root = at-or t (λ h. omega (arith, uk .same)) (λ x n h. omega (arith, ul .other x n, w .root x (omega (arith, uk .other x n))));
-    link = at-or t (λ h. absurd (omega (arith, uk .same))) (λ x n h.
-        let g : 2 ≤ k x = omega (arith, uk .other x n) in
-        let p = w .link x g in
-        let q = stays (k x) (omega (arith, p .0)) (not-own x n g) in
-        rw (uk .other x n) (q .0 ∙ p .0, omega (arith, q .1, p .1, ul .other x n)));
-    used = λ x p. omega (arith, left x p .3, w .used x (left x p .2));
-    half = λ x p e. w .half x (left x p .2) (omega (arith, left x p .3));
-    node = λ x p l.
-        let b = left x p in
-        let q = w .node x (b .2) (omega (arith, b .3)) in
-        rw (b .1) (q .0, uk .other (tableOf (a x)) (λ e. b .0 (sym (q .1) ∙ ap k e)) ∙ q .1);
-    leaf = λ x p l. let b = left x p in rw (b .1) (w .leaf x (b .2) (omega (arith, b .3)));
-    pool = λ j p.
-        let q = w .pool j p in
-        let b = stays (f j) (omega (arith, q .1))
-        (λ e. omega (arith, q .0, w .link t (omega (arith, two w (f j) (omega (arith, q .1)))) .1, ap (λ (x : ℕ). lv (home x)) e)) in
-        (b .1 ∙ q .0, ap frameNo (b .0) ∙ q .1);
   }

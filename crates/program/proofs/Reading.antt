@@ -10,7 +10,7 @@ use borrow.Author.Tests.{le-ltb}
 use Rattle.program.specs.declared.command.Command.{Command}
 use Rattle.program.specs.declared.numbers.Parsed.{Parsed}
 use Rattle.program.specs.declared.numbers.Numbers.{Numbers}
-use Rattle.program.specs.Command.{cutAt, piecesOf, parsedOf, noNumbers, withNumber, gathered, named, command, commandOf}
+use Rattle.program.specs.Command.{cutAt, piecesOf, parsedOf, noNumbers, withNumber, gathered, named, commandOf}
 use Rattle.program.proofs.Pieces.{pieces-more, pieces-one}
 use Rattle.program.proofs.Commands.{named-is}
 

@@ -6,7 +6,7 @@ use native.Mathlib.Omega.{arith}
 use lib.ListN.{length, take, length-take}
 use lib.Seq.{take-all}
 use Rattle.store.specs.Store.{Store}
-use Rattle.program.specs.Lines.{Told, Step, ended, grown, Fed}
+use Rattle.program.specs.Lines.{Told, ended, grown, Fed}
 use Rattle.program.proofs.Writing.{clip}
 use Rattle.program.proofs.Answering.{kept-enough}
 

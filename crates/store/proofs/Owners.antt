@@ -1,12 +1,12 @@
 -- In a well-formed store each table, each pool frame and each word has one owner. Assumes nothing.
-use mathlib.Core.Path.{_≡_, refl, sym, ap, _∙_}
+use mathlib.Core.Path.{_≡_, refl, sym, _∙_}
 use mathlib.Core.Logic.{_⊎_, inl, inr, ⊎-elim}
 use Prim.Native.Nat.{ℕ, zero, suc, _+_, _-_, _/_, _≤_, _<_}
 use native.Mathlib.Omega.{arith}
 use Rattle.store.specs.Store.{Store, Sized, word, mark, frameNo}
 use Rattle.store.specs.Level.{home, level}
 use Rattle.store.specs.WellFormed.{WellFormed}
-use Rattle.store.specs.Walk.{slotWord, tableOf, slot, entryAt, resolve}
+use Rattle.store.specs.Walk.{slotWord, tableOf, slot}
 use Rattle.store.specs.Owners.{PointsTo, NamesFrame, ReadFor, Below, self, step}
 use Rattle.store.proofs.Levels.{three}
 use Rattle.store.proofs.Scans.{in-range}
@@ -86,11 +86,6 @@ module _ (s : Store) (z : Sized s) (c : WellFormed s) where
       let h′ = top-of p′ (q′ .page) in
       let u = unique a r 2 p r′ 2 p′ (q .root) (q′ .root) (omega arith) (omega arith) (omega arith) (omega arith) (omega (arith, q .slot)) (q .slot ∙ sym (q′ .slot)) in
       (u .1, u .2)
-
-  -- the walk finds that word
-  pub read-word : {w r p : ℕ} → ReadFor s w r p → resolve s r p ≡ word (s .words) w
-  unfolding entryAt
-  read-word {w} q = ap (slotWord (s .words)) (q .slot) ∙ word-slot (s .words) w
 
   -- ---- roots
 

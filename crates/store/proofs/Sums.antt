@@ -18,14 +18,7 @@ pub same-no : (a b : ℕ) → (a ≡ b → ⊥) → same a b ≡ 0
 unfolding same
 same-no a b ne = rw (ne-eqb a b ne)
 
--- it is at most 1, and not 0 only where the two are equal
-pub same-le : (a b : ℕ) → same a b ≤ 1
-same-le a b = go (ℕ-discrete a b)
-  where
-    go : Dec (a ≡ b) → same a b ≤ 1
-    go (yes e) = omega (arith, same-yes a b e)
-    go (no ne) = omega (arith, same-no a b ne)
-
+-- it is not 0 only where the two are equal
 pub same-one : (a b : ℕ) → 0 < same a b → a ≡ b
 same-one a b h = go (ℕ-discrete a b)
   where
@@ -152,9 +145,6 @@ sum-only g (suc n) k l z = go (ℕ-discrete n k) (λ q. sum-only g n k q (λ i p
 -- `same` picks the term at k, and none where k is past the end
 pub sum-at : (g : ℕ → ℕ) (n k : ℕ) → k < n → sum (λ i. same i k * g i) n ≡ g k
 sum-at g n k l = sum-only (λ i. same i k * g i) n k l (λ i p. same-none i k (g i)) ∙ same-times k k (g k) refl
-
-pub sum-past : (g : ℕ → ℕ) (n k : ℕ) → n ≤ k → sum (λ i. same i k * g i) n ≡ 0
-sum-past g n k l = sum-zero (λ i. same i k * g i) n (λ i p. same-none i k (g i) (λ e. omega arith))
 
 -- ---- counting by marks
 

@@ -1,25 +1,14 @@
--- What each way out of the tests of one pointer, one table and one frame says. Assumes nothing.
+-- What each way out of the tests of one table and one frame says. Assumes nothing.
 use mathlib.Core.Path.{_≡_, sym, subst, ap, _∙_}
 use mathlib.Core.Logic.{_⊎_, inr, ⊎-elim}
 use mathlib.Core.List.{List}
-use Prim.Native.Nat.{ℕ, _+_, _-_, _/_, _≤_, _<_}
+use Prim.Native.Nat.{ℕ, _-_, _/_, _≤_, _<_}
 use native.Mathlib.Omega.{arith}
-use lib.ListN.{length}
 use Rattle.store.specs.Store.{word, mark, pointerTo, poolNo}
 use Rattle.store.specs.Level.{home, level}
-use Rattle.store.specs.WellFormed.{Inner, Points}
+use Rattle.store.specs.WellFormed.{Inner}
 use Rattle.store.proofs.Levels.{level-less}
 use Rattle.well_formed.specs.Scan.{TableOk, FrameOk}
-
--- a word x that points to table t, whose mark m was read
-module _ (ws ms : List ℕ) (w x t m : ℕ) (ex : x ≡ word ws w) (em : m ≡ mark ms t) where
-  pub points-here : t < length ms → x ≡ pointerTo t → m ≡ w + 2 → (word ws w ≡ 0) ⊎ Points ws ms w
-  points-here l p e = inr (record { to = t; there = l; word = sym ex ∙ p; mark = sym em ∙ e })
-
--- the only table that x can point to is t
-module _ (ws ms : List ℕ) (w x : ℕ) (ex : x ≡ word ws w) (nz : x ≡ 0 → ⊥) where
-  pub points-not : ((u : ℕ) → x ≡ pointerTo u → u < length ms → mark ms u ≡ w + 2 → ⊥) → (word ws w ≡ 0) ⊎ Points ws ms w → ⊥
-  points-not n = ⊎-elim (λ z. nz (ex ∙ z)) (λ q. n (q .to) (ex ∙ q .word) (q .there) (q .mark))
 
 module _ (ws ms : List ℕ) (t m : ℕ) (em : m ≡ mark ms t) where
   pub table-free : m < 2 → TableOk ws ms t

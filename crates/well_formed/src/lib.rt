@@ -9,9 +9,6 @@ mod tables;
 mod words;
 
 use store::Answer;
-ghost use Prim.Native.Nat.{_*_};
-ghost use mathlib.Core.Path.{_≡_};
-ghost use lib.ListN.{length};
 ghost use Rattle.store.specs.Outcome.{Judges};
 ghost use Rattle.store.specs.Says.{Says};
 ghost use Rattle.store.specs.Store.{storeOf, Sized};

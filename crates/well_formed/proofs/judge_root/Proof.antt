@@ -1,7 +1,6 @@
 -- `well_formed::judge_root` meets its contract. Assumes nothing.
 use mathlib.Core.Path.{sym, _∙_}
 use borrow.Author.Needs.{needs}
-use Rattle.store.specs.Store.{storeOf}
 use Rattle.well_formed.proofs.RootReasons.{not-judged, no-3, named}
 use Rattle.well_formed.proofs.judge_root.Statement.{statement}
 use Rattle.well_formed.proofs.judge_root.Tie as tie
