@@ -1,10 +1,11 @@
 -- `copy_in_str`: reading goes on up to the first zero byte or to the end of the buffer, and looks at no page behind that.
 use mathlib.Core.Path.{_≡_}
 use mathlib.Core.Bool.{Bool, true, false, cond}
-use mathlib.Core.List.{List, _++_}
+use mathlib.Core.List.{List, [], _∷_, _++_}
 use Prim.Native.Nat.{ℕ, zero, suc, _+_, _<_}
 use lib.Dec.{eqb}
 use lib.ListN.{length, drop}
+use Rattle.address.specs.Answer.{Said, refused}
 use Rattle.store.specs.Store.{Store}
 use Rattle.store.specs.Outcome.{Smallest, NoReason}
 use Rattle.well_formed.specs.Root.{RootReason}
@@ -12,6 +13,11 @@ use Rattle.copies.specs.declared.StrAnswer.{StrAnswer}
 use Rattle.copies.specs.declared.StrAnswer.the-variants.{Read, Refused}
 use Rattle.copies.specs.Bytes.{byteAt, bytesAt}
 use Rattle.copies.specs.Needed.{PageReason, Needs}
+
+-- what the answer of `copy_in_str` says on paper: the bytes written, and 1 where a zero was met and 0 where not
+unfoldable pub strSaid : StrAnswer → Said
+strSaid (Read n met) = record { number = 0; values = n ∷ cond met 1 0 ∷ [] }
+strSaid (Refused n) = refused n
 
 -- the byte at address a can be read and is not zero
 pub record Passed (s : Store) (r a : ℕ) : Type 0 where

@@ -6,10 +6,10 @@ use Prim.Native.Nat.{ℕ}
 use lib.Dec.{ltb}
 use lib.ListN.{length}
 use Rattle.store.specs.Store.{Store}
-use Rattle.copies.specs.Str.{Str}
+use Rattle.copies.specs.Str.{Str, strSaid}
 use Rattle.copies.specs.declared.StrAnswer.the-variants.{Read}
 use Rattle.copies.proofs.StrLaws.{zero-met}
-use Rattle.interface.specs.Reply.{strSaid, replyOf}
+use Rattle.interface.specs.Reply.{replyOf}
 use Rattle.interface.specs.declared.Reply.{Reply}
 
 -- a zero was met exactly when fewer bytes were written than the buffer is long

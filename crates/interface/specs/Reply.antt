@@ -1,19 +1,12 @@
 -- What a reply says: the number and the value of document 01, or 0 where there is no value.
 use mathlib.Core.Path.{_≡_}
-use mathlib.Core.Bool.{cond}
-use mathlib.Core.List.{[], _∷_}
 use lib.ListN.{getD}
-use Rattle.address.specs.Answer.{Said, refused}
+use Rattle.address.specs.Answer.{Said}
 use Rattle.store.specs.Outcome.{answerSaid}
 use Rattle.store.specs.declared.Answer.{Answer}
+use Rattle.copies.specs.Str.{strSaid}
 use Rattle.copies.specs.declared.StrAnswer.{StrAnswer}
-use Rattle.copies.specs.declared.StrAnswer.the-variants.{Read, Refused}
 use Rattle.interface.specs.declared.Reply.{Reply}
-
--- what the answer of `copy_in_str` says on paper: the bytes written, and 1 where a zero was met and 0 where not
-unfoldable pub strSaid : StrAnswer → Said
-strSaid (Read n met) = record { number = 0; values = n ∷ cond met 1 0 ∷ [] }
-strSaid (Refused n) = refused n
 
 -- of two values a reply has the first
 unfoldable pub replyOf : Said → Reply

@@ -10,7 +10,8 @@ ghost use mathlib.Core.Path.{_≡_};
 ghost use Rattle.address.specs.Answer.{numberSaid, virtualSaid, physicalSaid};
 ghost use Rattle.page_table_entry.specs.Built.{entrySaid};
 ghost use Rattle.store.specs.Outcome.{answerSaid};
-ghost use Rattle.interface.specs.Reply.{strSaid, replyOf};
+ghost use Rattle.copies.specs.Str.{strSaid};
+ghost use Rattle.interface.specs.Reply.{replyOf};
 
 pub fn number_reply(n: NumberAnswer) -> Reply
     ensures { λ r. ⌜ r ≡ replyOf (numberSaid n) ⌝ }

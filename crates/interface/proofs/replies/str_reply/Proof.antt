@@ -1,8 +1,9 @@
 -- `interface::replies::str_reply` meets its contract. Assumes nothing.
 use mathlib.Core.Path.{sym, ap}
 use borrow.Author.Needs.{needs}
+use Rattle.copies.specs.Str.{strSaid}
 use Rattle.copies.specs.declared.StrAnswer.{StrAnswer}
-use Rattle.interface.specs.Reply.{strSaid, replyOf}
+use Rattle.interface.specs.Reply.{replyOf}
 use Rattle.interface.proofs.replies.str_reply.Statement.{statement}
 use Rattle.interface.proofs.replies.str_reply.Tie as tie
 

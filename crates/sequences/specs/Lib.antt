@@ -1,0 +1,6 @@
+-- What is said of every sequence of calls.
+pub mod Call
+pub mod Answers
+pub mod Numbers
+pub mod Sequence
+pub mod Laws
