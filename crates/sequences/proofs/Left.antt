@@ -24,7 +24,7 @@ pub record Left (s s′ : Store) : Type 0 where
   pub sound : Sound s → Sound s′
 
 -- the same, found where s is sound: s′ is sound and has as many tables and frames
-pub record Kept (s s′ : Store) : Type 0 where
+pub record KeptSound (s s′ : Store) : Type 0 where
   pub sound : Sound s′
   pub tables : SameTables s s′
   pub frames : length (s′ .fmarks) ≡ length (s .fmarks)
@@ -33,7 +33,7 @@ stable : (m n : ℕ) → ((m ≡ n → ⊥) → ⊥) → m ≡ n
 stable m n h = by-cases (ℕ-discrete m n) (λ e. e) (λ e. absurd (h e))
 
 -- where s cannot be unsound, lengths that are kept when it is sound are kept
-left-of : (s s′ : Store) → ((Sound s → ⊥) → ⊥) → (Sound s → Kept s s′) → Left s s′
+left-of : (s s′ : Store) → ((Sound s → ⊥) → ⊥) → (Sound s → KeptSound s s′) → Left s s′
 left-of s s′ some k = record {
   lengths = record {
     words = stable (length (s′ .words)) (length (s .words)) (λ h. some (λ o. h (omega (arith, k o .sound .sized .words, o .sized .words, k o .tables))));
@@ -53,7 +53,7 @@ module _ (s : Store) (root : ℕ) (R : ℕ → Type 0) (up : (k : ℕ) → RootR
     is-root = by-cases (ℕ-discrete (mark (s .tmarks) root) 1) (λ e. e) (λ n. absurd (none 3 (up 3 (no-root n))));
   }
 
-  pub left-at : (s′ : Store) → (RootReady s root → Kept s s′) → Left s s′
+  pub left-at : (s′ : Store) → (RootReady s root → KeptSound s s′) → Left s s′
   left-at s′ k =
       left-of s s′ (λ h. none 1 (up 1 (sizes (λ z. none 2 (up 2 (unformed (λ w. h (record { sized = z; formed = w }))))))))
       (λ o. k (ready-at o))
@@ -105,7 +105,7 @@ create-left s v s′ u = left-of s s′ some kept
     some : (Sound s → ⊥) → ⊥
     some h = u .0 1 (create.sizes (λ z. u .0 2 (create.unformed (λ w. h (record { sized = z; formed = w })))))
 
-    kept : Sound s → Kept s s′
+    kept : Sound s → KeptSound s s′
     kept o =
         let f : 0 < freeTables s = by-cases (decLt 0 (freeTables s)) (λ l. l) (λ l. absurd (u .0 17 (create.no-table (omega arith)))) in
         let c = create-creates s s′ v (o .sized) (o .formed) f u in

@@ -18,7 +18,7 @@ use Rattle.release.proofs.FreedLaws.{free-freed}
 use Rattle.release.proofs.PartLaws.{uvm-free-gone, shared-free-gone, proc-free-gone}
 use Rattle.sequences.proofs.Reasons.{unmap-root}
 use Rattle.sequences.proofs.Tables.{SameTables}
-use Rattle.sequences.proofs.Left.{Left, Kept, left-at}
+use Rattle.sequences.proofs.Left.{Left, KeptSound, left-at}
 use Rattle.sequences.proofs.RootLeft.{unmap-tables}
 
 free-tables : (s : Store) (root v : ℕ) (s′ : Store) → Free s root (Done v) s′ → SameTables s s′
@@ -30,7 +30,7 @@ free-left s root v s′ u = left-at s root (FreeReason s root) (λ k. at-root) (
     let f = free-freed s root v s′ r u in
     record { sound = record { sized = f .sized; formed = f .well-formed }; tables = free-tables s root v s′ u; frames = ap length (f .fmarks) })
 
-kept-root-gone : {s s′ : Store} {root v : ℕ} → Sized s → RootGone s root v s′ → SameTables s s′ → Kept s s′
+kept-root-gone : {s s′ : Store} {root v : ℕ} → Sized s → RootGone s root v s′ → SameTables s s′ → KeptSound s s′
 kept-root-gone z g t = record {
   sound = record { sized = g .sized; formed = g .well-formed };
   tables = t;

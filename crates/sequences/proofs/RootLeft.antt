@@ -42,14 +42,14 @@ use Rattle.copies.proofs.MovedLaws.{out-moved}
 use Rattle.copies.proofs.ChildLaws.{child-grown}
 use Rattle.sequences.proofs.Reasons.{map-root, unmap-root, clear-root}
 use Rattle.sequences.proofs.Tables.{SameTables, enter-tables, fresh-table, fresh-tables, leave-tables}
-use Rattle.sequences.proofs.Left.{Left, Kept, ready-at, left-at}
+use Rattle.sequences.proofs.Left.{Left, KeptSound, ready-at, left-at}
 
 -- ---- pages that have got frames or have left
 
-kept-grown : {s s′ : Store} {r p n : ℕ} {q : ℕ → ℕ} {b : ℕ → List ℕ} → Grown s r p n q b s′ → SameTables s s′ → Kept s s′
+kept-grown : {s s′ : Store} {r p n : ℕ} {q : ℕ → ℕ} {b : ℕ → List ℕ} → Grown s r p n q b s′ → SameTables s s′ → KeptSound s s′
 kept-grown g t = record { sound = record { sized = g .sized; formed = g .well-formed }; tables = t; frames = g .pool }
 
-kept-gone : {s s′ : Store} {r p n : ℕ} {freeing : Bool} → Sized s → Gone s r p n freeing s′ → Kept s s′
+kept-gone : {s s′ : Store} {r p n : ℕ} {freeing : Bool} → Sized s → Gone s r p n freeing s′ → KeptSound s s′
 kept-gone z g = record {
   sound = record { sized = g .sized; formed = g .well-formed };
   tables = ap length (g .tmarks);
@@ -90,9 +90,9 @@ module _ (s : Store) (root va pa size perm v : ℕ) (s′ : Store) (u : Map s ro
 pub unmap-tables : (s : Store) (root va n : ℕ) (freeing : Bool) (v : ℕ) (s′ : Store) → unmap.Unmap s root va n freeing (Done v) s′ → SameTables s s′
 unmap-tables s root va n freeing v s′ u = ap (λ (t : Store). length (t .tmarks)) (u .1 .1) ∙ leave-tables n s root (va / 4096) freeing
 
-unmap-kept : (s : Store) (root va n : ℕ) (freeing : Bool) (v : ℕ) (s′ : Store) → unmap.Unmap s root va n freeing (Done v) s′ → RootReady s root → Kept s s′
+unmap-kept : (s : Store) (root va n : ℕ) (freeing : Bool) (v : ℕ) (s′ : Store) → unmap.Unmap s root va n freeing (Done v) s′ → RootReady s root → KeptSound s s′
 unfolding leavePages
-unmap-kept s root va zero freeing v s′ u r = subst (Kept s) (sym (u .1 .1)) (record { sound = record { sized = r .sized; formed = r .formed }; tables = refl; frames = refl })
+unmap-kept s root va zero freeing v s′ u r = subst (KeptSound s) (sym (u .1 .1)) (record { sound = record { sized = r .sized; formed = r .formed }; tables = refl; frames = refl })
 unmap-kept s root va (suc n) freeing v s′ u r =
     let a : Asked s root (va / 4096) (suc n) =
     record { sized = r .sized; formed = r .formed; is-root = r .is-root; pages = within (va / 4096) (suc n) (omega arith) (λ h. u .0 6 (unmap.too-high h)) } in

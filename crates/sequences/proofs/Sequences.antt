@@ -20,7 +20,7 @@ use Rattle.sequences.proofs.Reasons.{set-up-listed}
 use Rattle.sequences.proofs.Left.{set-up-sound}
 use Rattle.sequences.proofs.Calls.{lawful}
 
--- ---- a: answered or refused
+-- ---- answered or refused
 
 pub refused-or-answered : RefusedOrAnswered
 refused-or-answered s [] q = tt
@@ -29,7 +29,7 @@ refused-or-answered s (x ∷ xs) q = (
   refused-or-answered (x .left .store) xs (q .1),
 )
 
--- ---- b: sound stores
+-- ---- sound stores
 
 pub kept : Kept
 kept s [] o q = (tt, o)
@@ -53,7 +53,7 @@ kept-from-set-up s x xs e z q =
     let r = kept (x .left .store) xs o (q .1) in
     ((o, r .0), r .1)
 
--- ---- c: one sequence
+-- ---- one sequence
 
 pub one-sequence : OneSequence
 unfolding asks
@@ -67,7 +67,7 @@ one-sequence s (x ∷ xs) (y ∷ ys) e p q =
     let r = one-sequence (x .left .store) xs ys (tail-eq-of-cons-eq e) (p .1) (subst (λ (l : Lent). Sequence (l .store) ys) (sym (o .1)) (q .1)) in
     λ i. record { ask = h i; said = o .0 i; left = o .1 i } ∷ r i
 
--- ---- d: lengths
+-- ---- lengths
 
 pub lengths : Lengths
 lengths s [] q = (tt, record { words = refl; tmarks = refl; bytes = refl; fmarks = refl })

@@ -19,7 +19,7 @@ pub record Refusal (c : Call) (l : Lent) (a : Said) (l′ : Lent) : Type 0 where
 abbrev pub AnsweredOrRefused : Call → Lent → Said → Lent → Type 0
 AnsweredOrRefused c l a l′ = (a .number ≡ 0) ⊎ Refusal c l a l′
 
--- a: each step of every sequence is answered or refused
+-- each step of every sequence is answered or refused
 abbrev pub RefusedOrAnswered : Type 0
 RefusedOrAnswered = (s : Store) (xs : List Step) → Sequence s xs → Each AnsweredOrRefused s xs
 
@@ -30,7 +30,7 @@ pub record Sound (s : Store) : Type 0 where
 abbrev pub LeavesSound : Call → Lent → Said → Lent → Type 0
 LeavesSound c l a l′ = Sound (l′ .store)
 
--- b: from a sized well-formed store on every store is sized and well formed
+-- from a sized well-formed store on every store is sized and well formed
 abbrev pub Kept : Type 0
 Kept = (s : Store) (xs : List Step) → Sound s → Sequence s xs → Each LeavesSound s xs × Sound (last s xs)
 
@@ -40,7 +40,7 @@ KeptFromSetUp =
     (s : Store) (x : Step) (xs : List Step) → x .ask .call ≡ set-up → x .said .number ≡ 0 → Sequence s (x ∷ xs)
     → Each LeavesSound s (x ∷ xs) × Sound (last s (x ∷ xs))
 
--- c: the same calls with the same buffers from the same store say the same and leave the same
+-- the same calls with the same buffers from the same store say the same and leave the same
 abbrev pub OneSequence : Type 0
 OneSequence = (s : Store) (xs ys : List Step) → asks xs ≡ asks ys → Sequence s xs → Sequence s ys → xs ≡ ys
 
@@ -56,6 +56,6 @@ pub record KeepsLengths (c : Call) (l : Lent) (a : Said) (l′ : Lent) : Type 0 
   pub store : AsLong (l .store) (l′ .store)
   pub buffer : length (l′ .buffer) ≡ length (l .buffer)
 
--- d: at each step of every sequence, refused or not
+-- at each step of every sequence, refused or not, and so from its first store to its last
 abbrev pub Lengths : Type 0
 Lengths = (s : Store) (xs : List Step) → Sequence s xs → Each KeepsLengths s xs × AsLong s (last s xs)
