@@ -1,3 +1,4 @@
 -- What the contracts of `interface` cite.
 pub mod Reply
 pub mod Calls
+pub mod Told

@@ -15,7 +15,7 @@ use Rattle.sequences.specs.Call.{Call, Lent, lent}
 use Rattle.sequences.specs.Answers.{Answers, Writes}
 use Rattle.sequences.specs.Numbers.{among, Listed}
 use Rattle.sequences.specs.Sequence.{Ask, Sequence, asks}
-use Rattle.sequences.specs.Laws.{RefusedOrAnswered, Sound, Kept, KeptFromSetUp, OneSequence, Lengths}
+use Rattle.sequences.specs.Laws.{RefusedOrAnswered, Sound, Kept, KeptFromSetUp, Cut, OneSequence, Lengths}
 use Rattle.sequences.proofs.Reasons.{set-up-listed}
 use Rattle.sequences.proofs.Left.{set-up-sound}
 use Rattle.sequences.proofs.Calls.{lawful}
@@ -53,7 +53,13 @@ kept-from-set-up s x xs e z q =
     let r = kept (x .left .store) xs o (q .1) in
     ((o, r .0), r .1)
 
--- ---- one sequence
+-- ---- one sequence, cut and repeated
+
+pub cut : Cut
+cut s [] ys = (λ q. (tt, q), λ q. q .1)
+cut s (x ∷ xs) ys =
+    let r = cut (x .left .store) xs ys in
+    (λ q. let p = r .0 (q .1) in ((q .0, p .0), p .1), λ q. (q .0 .0, r .1 (q .0 .1, q .1)))
 
 pub one-sequence : OneSequence
 unfolding asks

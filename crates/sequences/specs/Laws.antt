@@ -1,7 +1,7 @@
 -- What holds of every sequence of calls, from any store.
 use mathlib.Core.Path.{_≡_}
-use mathlib.Core.Logic.{_⊎_}
-use mathlib.Core.List.{List, _∷_}
+use mathlib.Core.Logic.{_⊎_, _↔_}
+use mathlib.Core.List.{List, _∷_, _++_}
 use lib.ListN.{length}
 use Rattle.address.specs.Answer.{Said, refused}
 use Rattle.store.specs.Store.{Store, Sized}
@@ -39,6 +39,10 @@ abbrev pub KeptFromSetUp : Type 0
 KeptFromSetUp =
     (s : Store) (x : Step) (xs : List Step) → x .ask .call ≡ set-up → x .said .number ≡ 0 → Sequence s (x ∷ xs)
     → Each LeavesSound s (x ∷ xs) × Sound (last s (x ∷ xs))
+
+-- a sequence can be cut anywhere: its parts are sequences, the second from the store that the first leaves
+abbrev pub Cut : Type 0
+Cut = (s : Store) (xs ys : List Step) → Sequence s (xs ++ ys) ↔ (Sequence s xs × Sequence (last s xs) ys)
 
 -- the same calls with the same buffers from the same store say the same and leave the same
 abbrev pub OneSequence : Type 0
