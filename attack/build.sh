@@ -4,15 +4,16 @@
 here=$(CDPATH='' cd -- "$(dirname -- "$0")" && pwd) || exit 4
 root=$(dirname -- "$here")
 out=$root/target/attack
+[ -z "${RONAKVESH_ARCHIVES:-}" ] || RONAKVESH_ARCHIVES=$(CDPATH='' cd -- "$RONAKVESH_ARCHIVES" && pwd) || exit 4
 
 fail() {
     echo "attack/${0##*/}: $*" >&2
     exit 4
 }
 
-# Sets archive to the archive of crate interface for this kind of machine, or for this one with counters.
+# Sets archive to the archive of crate interface for this machine, or for this machine with counters.
 find_archive() { # host | host-counted
-    archive=${RONAKVESH_ARCHIVES:-$root/target/archive}/$1/libinterface.a
+    archive=${RONAKVESH_ARCHIVES:-$root/target/archive/$1}/libinterface.a
     if [ -z "${RONAKVESH_ARCHIVES:-}" ]; then
         (CDPATH='' cd -- "$root" && tools/archive interface "$1") >/dev/null || fail "no archive was made"
     fi
@@ -33,8 +34,8 @@ compile() { # COMPILER FOLDER FILE..
 parts='attack/lent attack/store attack/input attack/calls attack/judge attack/helpers attack/damage attack/finding attack/tally
     attack/sequence bench/check'
 
-# Builds the attack with the driver of our own, as own/attack; words that follow go to the linker.
-build_own() { # [WORD..]
+# Builds the attack with the driver of our own, as own/attack.
+build_own() {
     # shellcheck disable=SC2086
     compile gcc own $parts attack/main
     gcc "$out"/own/*.o "$archive" -o "$out/own/attack" || fail "the attack was not linked"

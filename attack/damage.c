@@ -84,7 +84,10 @@ void damage(input *in) {
     changes[changed].slice = slice;
     changes[changed].index = index;
     changes[changed++].old = old;
-    set_element(slice, index, slice == WORDS ? some_word(in, old) : slice == BYTES ? next_byte(in) : some_mark(in, old));
+    set_element(slice, index,
+                slice == WORDS   ? some_word(in, old)
+                : slice == BYTES ? next_byte(in)
+                                 : some_mark(in, old));
 }
 
 void undo_damage(void) {

@@ -11,7 +11,8 @@ void begin_input(const uint8_t *data, size_t size);
 void begin_call(const char *name, const uint64_t *numbers, size_t count);
 /* What the call replied. */
 void end_call(uint64_t number, uint64_t value);
-/* Prints what is wrong, the call, its numbers, the slices and the input, writes the input to the file `finding`, and aborts. */
+/* Prints what is wrong, the call, its numbers, the slices and the input, writes the input to the file `finding`, and
+ * aborts. */
 _Noreturn void found(const char *what);
 /* A touch of memory that was not lent is a finding too. */
 void watch_guards(void);

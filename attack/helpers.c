@@ -11,7 +11,7 @@ typedef unsigned __int128 wide;
 #define UP(a) (((wide)(a) + PAGE - 1) / PAGE * PAGE)
 #define DOWN(a) ((a) / PAGE * PAGE)
 #define SUM(a, b) ((wide)(a) + (b))
-#define BIT(e, k) ((e) >> (k) & 1)
+#define BIT(e, k) ((e) >> (k)&1)
 #define FRAME_ENTRY(a) ((a) >> 12 << 10)
 
 /* Each helper of two numbers a and b: a name, its arguments, and the number and value of its right reply. */

@@ -68,8 +68,8 @@ static uint64_t draw_child(input *in, uint64_t parent) {
 
 static uint64_t draw_virtual(input *in, uint64_t root) {
     static const uint64_t pages[] = {510, 511, 512, 513, 1023, 1024, 1025, 262142, 262143, 262144, 524287, 67108862};
-    static const uint64_t bounds[] = {TRAMPOLINE, TRAPFRAME, TRAMPOLINE, TRAPFRAME, MAXVA - 4096, MAXVA,
-                                      2 * MAXVA, MAXPA, (uint64_t)1 << 63, (uint64_t)-4096, (uint64_t)-1, 0};
+    static const uint64_t bounds[] = {TRAMPOLINE, TRAPFRAME, TRAMPOLINE,        TRAPFRAME,       MAXVA - 4096, MAXVA,
+                                      2 * MAXVA,  MAXPA,     (uint64_t)1 << 63, (uint64_t)-4096, (uint64_t)-1, 0};
     uint8_t byte = next_byte(in);
     if (byte < 128)
         return byte % 8 * 4096 + near(in);
@@ -81,8 +81,8 @@ static uint64_t draw_virtual(input *in, uint64_t root) {
 }
 
 static uint64_t draw_physical(input *in) {
-    static const uint64_t bounds[] = {HELD - 4096, HELD - 8192, HELD, POOL - 4096, POOL,  HELD_END - 4096,
-                                      HELD_END,    MAXPA - 4096, MAXPA - 8192, MAXPA, 0, (uint64_t)-1};
+    static const uint64_t bounds[] = {HELD - 4096, HELD - 8192,  HELD,         POOL - 4096, POOL, HELD_END - 4096,
+                                      HELD_END,    MAXPA - 4096, MAXPA - 8192, MAXPA,       0,    (uint64_t)-1};
     uint8_t byte = next_byte(in);
     if (byte < 144)
         return FOREIGN + byte * 4096 + near(in);
@@ -91,8 +91,18 @@ static uint64_t draw_physical(input *in) {
 
 /* A number of pages. */
 static uint64_t draw_pages(input *in, uint64_t root) {
-    static const uint64_t bounds[] = {255, 256, 511, 512, 513, 1024, 4096, 262144, MAXVA / 4096 - 1, MAXVA / 4096,
-                                      MAXVA / 4096 + 1, (uint64_t)1 << 52};
+    static const uint64_t bounds[] = {255,
+                                      256,
+                                      511,
+                                      512,
+                                      513,
+                                      1024,
+                                      4096,
+                                      262144,
+                                      MAXVA / 4096 - 1,
+                                      MAXVA / 4096,
+                                      MAXVA / 4096 + 1,
+                                      (uint64_t)1 << 52};
     uint8_t byte = next_byte(in);
     if (byte < 120)
         return byte % 10;
@@ -112,7 +122,8 @@ static uint64_t draw_permissions(input *in) {
 }
 
 static uint64_t draw_any(input *in) {
-    static const uint64_t bounds[] = {0, 4096, MAXVA, MAXPA, (uint64_t)1 << 54, (uint64_t)-4096, (uint64_t)-1, 1023, 1, 2};
+    static const uint64_t bounds[] = {0,    4096, MAXVA, MAXPA, (uint64_t)1 << 54, (uint64_t)-4096, (uint64_t)-1,
+                                      1023, 1,    2};
     uint8_t byte = next_byte(in);
     return byte < 128 ? bounds[byte % LENGTH(bounds)] + near(in) : next_number(in);
 }

@@ -20,8 +20,8 @@ size_t next_below(input *in, size_t n);
 /* The next eight bytes as a number. */
 uint64_t next_number(input *in);
 
-/* Draws the numbers of a call by the letters of its kinds: r root, c root of a child, v virtual address, p physical address,
- * s size, n number of pages, m permissions, f freeing, w any number. */
+/* Draws the numbers of a call by the letters of its kinds: r root, c root of a child, v virtual address, p physical
+ * address, s size, n number of pages, m permissions, f freeing, w any number. */
 void draw_numbers(input *in, const char *kinds, uint64_t *numbers);
 /* Draws a length of the kernel's buffer, at most MAX_BUFFER. */
 size_t draw_length(input *in);

@@ -46,7 +46,8 @@ static bool all_zero(void) {
     return true;
 }
 
-/* Is the value of an answer one that document 01 allows? The calls that are not named here answer a number of tables or 0. */
+/* Is the value of an answer one that document 01 allows? The calls that are not named here answer a number of tables or
+ * 0. */
 static bool value_fits(int number, const uint64_t *n, uint64_t value) {
     switch (number) {
     case CHECK:

@@ -1,5 +1,5 @@
-/* main.c: a driver for machines without libFuzzer. It runs the inputs of a folder or a file, and then random inputs and changed
- * ones of the folder, from a fixed seed, until there were enough. */
+/* main.c: a driver for machines without libFuzzer. It runs the inputs of a folder or a file, and then random inputs and
+ * changed ones of the folder, from a fixed seed, until there were enough. */
 #include <dirent.h>
 #include <stdio.h>
 #include <stdlib.h>
@@ -9,7 +9,7 @@
 
 int LLVMFuzzerTestOneInput(const uint8_t *data, size_t size);
 
-enum { MOST_FILES = 1000, MOST_BYTES = 512 };
+enum { MOST_FILES = 4000, MOST_BYTES = 512 };
 
 typedef struct {
     uint8_t bytes[MOST_BYTES];

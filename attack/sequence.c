@@ -1,4 +1,5 @@
-/* sequence.c: an input of the attack is a store and a sequence of calls on it, with damage and wrong lengths between them. */
+/* sequence.c: an input of the attack is a store and a sequence of calls on it, with damage and wrong lengths between
+ * them. */
 #include <string.h>
 #include <unistd.h>
 
@@ -17,11 +18,13 @@ enum { DAMAGE = CALLS, UNDO, WRONG_LENGTHS, HELPER, PROCESS };
 
 /* What a byte of the input, modulo their number, asks for. */
 static const uint8_t steps[] = {
-    MAP,       MAP,      MAP,      MAP,    MAP,         UVM_ALLOC, UVM_ALLOC, UVM_ALLOC, UVM_ALLOC,     UVM_DEALLOC, UVM_DEALLOC,
-    UVM_DEALLOC, UVM_UNMAP, UVM_UNMAP, UVM_UNMAP, COPY_IN, COPY_IN, COPY_OUT,  COPY_OUT,  COPY_OUT,  COPY_IN_STR,   COPY_IN_STR, COPY_IN_STR,
-    UVM_COPY,  UVM_COPY, UVM_COPY, UVM_COPY, UVM_INIT,  UVM_INIT,  UVM_CLEAR, UVM_CLEAR, PGT_TRANSLATE, PGT_TRANSLATE, AS_SATP,
-    UVMCREATE, UVMCREATE, UVMCREATE, FREE,  FREE,       UVM_FREE,  UVM_FREE,  FREE_SHARED, FREE_SHARED, PROC_FREE,   PROC_FREE,
-    CHECK,     SET_UP,   DAMAGE,   DAMAGE, DAMAGE,      UNDO,      WRONG_LENGTHS, WRONG_LENGTHS, HELPER, PROCESS,   PROCESS,
+    MAP,       MAP,         MAP,           MAP,           MAP,         UVMCREATE,   UVMCREATE,     UVMCREATE,
+    UVM_ALLOC, UVM_ALLOC,   UVM_ALLOC,     UVM_ALLOC,     UVM_DEALLOC, UVM_DEALLOC, UVM_DEALLOC,   UVM_UNMAP,
+    UVM_UNMAP, UVM_UNMAP,   UVM_INIT,      UVM_INIT,      UVM_CLEAR,   UVM_CLEAR,   COPY_IN,       COPY_IN,
+    COPY_OUT,  COPY_OUT,    COPY_OUT,      COPY_IN_STR,   COPY_IN_STR, COPY_IN_STR, UVM_COPY,      UVM_COPY,
+    UVM_COPY,  UVM_COPY,    PGT_TRANSLATE, PGT_TRANSLATE, AS_SATP,     FREE,        FREE,          UVM_FREE,
+    UVM_FREE,  FREE_SHARED, FREE_SHARED,   PROC_FREE,     PROC_FREE,   CHECK,       SET_UP,        PROCESS,
+    PROCESS,   HELPER,      DAMAGE,        DAMAGE,        DAMAGE,      UNDO,        WRONG_LENGTHS, WRONG_LENGTHS,
 };
 
 /* Lends the buffer anew: one byte throughout, with a zero at one place. */
@@ -61,7 +64,8 @@ static size_t wrong_length(input *in, size_t count, size_t unit) {
     }
 }
 
-/* Makes one call with other lengths: of one slice, or with one table or frame more or less in both slices that have it. */
+/* Makes one call with other lengths: of one slice, or with one table or frame more or less in both slices that have it.
+ */
 static void with_wrong_lengths(input *in) {
     static const size_t units[] = {ENTRIES, 2, PAGE_BYTES, 2};
     size_t counts[STORE_SLICES];
@@ -82,8 +86,8 @@ static void with_wrong_lengths(input *in) {
     forget();
 }
 
-/* A root as a kernel makes it for a process: TRAMPOLINE, mostly TRAPFRAME, and a few pages of its own; seldom the first two are
- * pages of its own as well. */
+/* A root as a kernel makes it for a process: TRAMPOLINE, mostly TRAPFRAME, and a few pages of its own; seldom the first
+ * two are pages of its own as well. */
 static void make_process(input *in) {
     uint8_t byte = next_byte(in);
     const ronakvesh_reply root = judged_call(UVMCREATE, NULL);
@@ -135,16 +139,19 @@ static void step(input *in) {
     }
 }
 
-/* Lends a store that is mostly small: 1 to 8 tables and frames, seldom more, and very seldom as many as there may be. */
+/* Lends a store that is mostly small: 1 to 8 tables and frames, seldom more, and very seldom as many as there may be.
+ */
 static void draw_store(input *in) {
     uint8_t size = next_byte(in), tables = next_byte(in), frames = next_byte(in), places = next_byte(in);
-    uint8_t paint = next_byte(in);
+    uint8_t fill = next_byte(in), painted = fill < 224 ? 0 : fill;
     if (size < 240)
-        lend_store(1 + tables % 8, 1 + frames % 8, places, paint < 224 ? 0 : paint);
+        lend_store(1 + tables % 8, 1 + frames % 8, places, painted);
     else if (size < 255 || tables < 224)
-        lend_store(1 + tables % 32, 1 + frames % 64, places, paint < 224 ? 0 : paint);
+        lend_store(1 + tables % 32, 1 + frames % 64, places, painted);
     else
-        lend_store(MAX_TABLES - tables % 2, MAX_FRAMES - frames % 2, places, 0);
+        lend_store(MAX_TABLES - tables % 2, MAX_FRAMES - frames % 2, places, painted);
+    if (fill >= 240)
+        scramble(fill);
     accept_damage();
 }
 

@@ -29,6 +29,17 @@ void lend_store(size_t tables, size_t frames, unsigned places, uint8_t byte) {
     forget();
 }
 
+void scramble(uint64_t seed) {
+    for (int i = 0; i < STORE_SLICES; i++) {
+        for (size_t k = 0; k < slices[i].width * slices[i].count; k++) {
+            seed = seed * 6364136223846793005 + 1442695040888963407;
+            slices[i].start[k] = seed >> 56;
+        }
+        keep(&slices[i]);
+    }
+    forget();
+}
+
 bool lengths_right(void) {
     size_t tables = slices[TABLE_MARKS].count, frames = slices[FRAME_MARKS].count;
     return tables >= 1 && tables <= MAX_TABLES && frames >= 1 && frames <= MAX_FRAMES &&

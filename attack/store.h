@@ -24,6 +24,8 @@ extern lent slices[SLICES];
 void make_rooms(void);
 /* Lends a store of these sizes, painted with one byte; bit i of the places says whether slice i ends at its guard. */
 void lend_store(size_t tables, size_t frames, unsigned places, uint8_t byte);
+/* Fills the four slices with bytes that look random, from a seed. */
+void scramble(uint64_t seed);
 /* Are the lengths of the four slices those of document 01? */
 bool lengths_right(void);
 /* Is this number that of a root? */
@@ -31,8 +33,8 @@ bool is_root(uint64_t number);
 /* How many pages from 0 on are mapped in a root, up to 512; 0 where that cannot be said. */
 uint64_t pages_mapped(uint64_t root);
 
-/* Is the store well formed, by the plain C check of bench/? It is asked only where the lengths are right, and again only
- * after `forget`. */
+/* Is the store well formed, by the plain C check of bench/? It is asked only where the lengths are right, and again
+ * only after `forget`. */
 bool well_formed(void);
 /* The store is no longer the one that was last judged. */
 void forget(void);

@@ -19,9 +19,9 @@ void count_call(int call, uint64_t number) {
 
 void count_helper(uint64_t number) { helper_replies[number]++; }
 
-static double now(void) {
+static double now(clockid_t clock) {
     struct timespec t;
-    clock_gettime(CLOCK_MONOTONIC, &t);
+    clock_gettime(clock, &t);
     return (double)t.tv_sec + 1e-9 * (double)t.tv_nsec;
 }
 
@@ -34,8 +34,8 @@ static double limit(const char *name) {
 static double passed(void) {
     static double begun;
     if (begun == 0)
-        begun = now();
-    return now() - begun;
+        begun = now(CLOCK_MONOTONIC);
+    return now(CLOCK_MONOTONIC) - begun;
 }
 
 bool enough(void) {
@@ -68,9 +68,8 @@ void print_tally(void) {
         answers += replies[i][0];
     }
     uint64_t helpers = print_row("helpers", helper_replies);
-    double seconds = passed();
     printf("attack: %" PRIu64 " calls on stores, %" PRIu64 " answers and %" PRIu64 " refusals, and %" PRIu64
-           " of helpers, in %.0f seconds, %.0f calls a second; nothing found\n",
-           made, answers, made - answers, helpers, seconds, (double)(made + helpers) / (seconds > 0 ? seconds : 1));
+           " of helpers, in %.0f seconds, %.0f of them on the processor; nothing found\n",
+           made, answers, made - answers, helpers, passed(), now(CLOCK_PROCESS_CPUTIME_ID));
     fflush(stdout);
 }

@@ -7,7 +7,8 @@
 
 void count_call(int call, uint64_t number);
 void count_helper(uint64_t number);
-/* Have ATTACK_CALLS calls been made and ATTACK_SECONDS seconds passed, as the environment has them (0 where it does not)? */
+/* Have ATTACK_CALLS calls been made and ATTACK_SECONDS seconds passed, as the environment has them (0 where it does
+ * not)? */
 bool enough(void);
 /* Prints the answers and refusals of each call, and a last line of totals. */
 void print_tally(void);
