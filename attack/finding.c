@@ -13,6 +13,7 @@ static size_t input_size, calls, numbers_count;
 static const char *name = "none";
 static const uint64_t *numbers;
 static uint64_t number, value;
+static bool replied;
 
 void begin_input(const uint8_t *data, size_t size) {
     input = data;
@@ -24,19 +25,20 @@ void begin_call(const char *call, const uint64_t *given, size_t count) {
     name = call;
     numbers = given;
     numbers_count = count;
-    number = value = UINT64_MAX;
+    replied = false;
     calls++;
 }
 
-void end_call(uint64_t replied, uint64_t with) {
-    number = replied;
-    value = with;
+void end_call(uint64_t reply_number, uint64_t reply_value) {
+    number = reply_number;
+    value = reply_value;
+    replied = true;
 }
 
 static void print_slices(void) {
     for (int i = 0; i < SLICES; i++)
-        fprintf(stderr, "attack:   %s: %zu elements, %s\n", slices[i].name, slices[i].count,
-                slices[i].at_end ? "up to a guard" : "from a guard on");
+        fprintf(stderr, "attack:   %s: %zu elements, %zu bytes %s a guard\n", slices[i].name, slices[i].count,
+                slices[i].gap, slices[i].at_end ? "before" : "behind");
 }
 
 /* Writes the input to a file, which attack/run replays. */
@@ -50,7 +52,9 @@ _Noreturn void found(const char *what) {
     fprintf(stderr, "attack: FOUND: %s\nattack:   call %zu of the input, %s", what, calls, name);
     for (size_t i = 0; i < numbers_count; i++)
         fprintf(stderr, " 0x%" PRIx64, numbers[i]);
-    fprintf(stderr, "; reply %" PRIu64 " 0x%" PRIx64 "\n", number, value);
+    if (replied)
+        fprintf(stderr, ", which replied %" PRIu64 " 0x%" PRIx64, number, value);
+    fputc('\n', stderr);
     print_slices();
     fprintf(stderr, "attack:   the input, which the file `finding` holds:");
     for (size_t i = 0; i < input_size; i++)

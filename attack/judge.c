@@ -87,7 +87,7 @@ static void judge_left(void) {
 static void judge_answer(int number, const uint64_t *n, ronakvesh_reply r) {
     unsigned writes = calls[number].writes;
     for (int i = 0; i < SLICES; i++)
-        must(writes >> i & 1 ? margin_unchanged(&slices[i]) : unchanged(&slices[i]),
+        must(writes >> i & 1 ? margins_unchanged(&slices[i]) : unchanged(&slices[i]),
              "an answer that changed a slice which the call only reads, or what lies beside one");
     must(value_fits(number, n, r.value), "an answer whose value does not fit");
     must(number != SET_UP || all_zero(), "a set-up that leaves something other than zeros");

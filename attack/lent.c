@@ -17,7 +17,7 @@ static void no_memory(void) {
 lent new_lent(const char *name, size_t width, size_t most) {
     lent l = {.name = name, .width = width, .at_end = true};
     size_t page = sysconf(_SC_PAGESIZE);
-    l.size = (width * most + MARGIN + page - 1) / page * page;
+    l.size = (width * most + 2 * MARGIN + page - 1) / page * page;
     uint8_t *place = mmap(NULL, l.size + 2 * GUARD, PROT_NONE, MAP_PRIVATE | MAP_ANONYMOUS, -1, 0);
     if (place == MAP_FAILED || mprotect(place + GUARD, l.size, PROT_READ | PROT_WRITE) != 0)
         no_memory();
@@ -29,18 +29,18 @@ lent new_lent(const char *name, size_t width, size_t most) {
     return l;
 }
 
+/* The bytes in front of the slice and behind it that no call may touch. */
+static size_t front(const lent *l) { return l->at_end ? MARGIN : l->gap; }
+static size_t back(const lent *l) { return l->at_end ? l->gap : MARGIN; }
+
 /* Where count elements begin. */
 static uint8_t *place_of(const lent *l, size_t count) {
-    return l->at_end ? l->room + l->size - l->width * count : l->room;
+    return l->at_end ? l->room + l->size - l->gap - l->width * count : l->room + l->gap;
 }
 
-static uint8_t *margin(const lent *l) { return l->at_end ? l->start - MARGIN : l->start + l->width * l->count; }
+static size_t size_of(const lent *l) { return l->width * l->count; }
 
-/* The slice with its margin: where it begins, and its bytes. */
-static uint8_t *region(const lent *l) { return l->at_end ? margin(l) : l->start; }
-static size_t region_size(const lent *l) { return l->width * l->count + MARGIN; }
-
-void keep(lent *l) { memcpy(l->kept, region(l), region_size(l)); }
+void keep(lent *l) { memcpy(l->kept, l->start - front(l), front(l) + size_of(l) + back(l)); }
 
 void lend(lent *l, size_t count) {
     l->count = count;
@@ -49,21 +49,19 @@ void lend(lent *l, size_t count) {
 }
 
 void paint(lent *l, size_t count, uint8_t byte) {
-    uint8_t *first = place_of(l, count);
-    memset(l->at_end ? first - MARGIN : first, byte, l->width * count + MARGIN);
+    memset(place_of(l, count) - front(l), byte, front(l) + l->width * count + back(l));
 }
 
-bool unchanged(const lent *l) { return memcmp(l->kept, region(l), region_size(l)) == 0; }
+bool unchanged(const lent *l) { return memcmp(l->kept, l->start - front(l), front(l) + size_of(l) + back(l)) == 0; }
 
-bool margin_unchanged(const lent *l) {
-    const uint8_t *held = l->at_end ? l->kept : l->kept + l->width * l->count;
-    return memcmp(held, margin(l), MARGIN) == 0;
+bool margins_unchanged(const lent *l) {
+    const uint8_t *behind = l->kept + front(l) + size_of(l);
+    return memcmp(l->kept, l->start - front(l), front(l)) == 0 && memcmp(behind, l->start + size_of(l), back(l)) == 0;
 }
 
 bool unchanged_from(const lent *l, size_t first) {
     size_t skipped = l->width * first;
-    const uint8_t *held = l->kept + (l->at_end ? MARGIN : 0);
-    return memcmp(held + skipped, l->start + skipped, l->width * l->count - skipped) == 0;
+    return memcmp(l->kept + front(l) + skipped, l->start + skipped, size_of(l) - skipped) == 0;
 }
 
 bool in_guard(const lent *l, const void *address) {

@@ -142,14 +142,15 @@ static void step(input *in) {
 /* Lends a store that is mostly small: 1 to 8 tables and frames, seldom more, and very seldom as many as there may be.
  */
 static void draw_store(input *in) {
-    uint8_t size = next_byte(in), tables = next_byte(in), frames = next_byte(in), places = next_byte(in);
-    uint8_t fill = next_byte(in), painted = fill < 224 ? 0 : fill;
+    uint8_t size = next_byte(in), tables = next_byte(in), frames = next_byte(in), ends = next_byte(in);
+    uint8_t gap = next_byte(in), fill = next_byte(in), painted = fill < 224 ? 0 : fill;
+    place_slices(ends, gap < 192 ? 0 : gap % 8);
     if (size < 240)
-        lend_store(1 + tables % 8, 1 + frames % 8, places, painted);
+        lend_store(1 + tables % 8, 1 + frames % 8, painted);
     else if (size < 255 || tables < 224)
-        lend_store(1 + tables % 32, 1 + frames % 64, places, painted);
+        lend_store(1 + tables % 32, 1 + frames % 64, painted);
     else
-        lend_store(MAX_TABLES - tables % 2, MAX_FRAMES - frames % 2, places, painted);
+        lend_store(MAX_TABLES - tables % 2, MAX_FRAMES - frames % 2, painted);
     if (fill >= 240)
         scramble(fill);
     accept_damage();

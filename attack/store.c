@@ -15,11 +15,16 @@ void make_rooms(void) {
     slices[BUFFER] = new_lent("buffer", 1, MAX_BUFFER);
 }
 
-void lend_store(size_t tables, size_t frames, unsigned places, uint8_t byte) {
+void place_slices(unsigned ends, size_t gap) {
+    for (int i = 0; i < SLICES; i++) {
+        slices[i].at_end = ends >> i & 1;
+        slices[i].gap = slices[i].width * gap;
+    }
+}
+
+void lend_store(size_t tables, size_t frames, uint8_t byte) {
     const size_t counts[] = {ENTRIES * tables, tables, PAGE_BYTES * frames, frames};
     const size_t more[] = {ENTRIES + 1, 2, PAGE_BYTES + 1, 2};
-    for (int i = 0; i < SLICES; i++)
-        slices[i].at_end = places >> i & 1;
     for (int i = 0; i < STORE_SLICES; i++) {
         paint(&slices[i], counts[i] + more[i], byte);
         lend(&slices[i], counts[i]);

@@ -22,8 +22,11 @@ extern lent slices[SLICES];
 
 /* Makes the rooms of the slices, once. */
 void make_rooms(void);
-/* Lends a store of these sizes, painted with one byte; bit i of the places says whether slice i ends at its guard. */
-void lend_store(size_t tables, size_t frames, unsigned places, uint8_t byte);
+/* Says where the next slices lie: bit i of the ends says whether slice i lies at the guard behind, and gap how many
+ * elements, at most 7, lie between each slice and its guard. */
+void place_slices(unsigned ends, size_t gap);
+/* Lends a store of these sizes, painted with one byte. */
+void lend_store(size_t tables, size_t frames, uint8_t byte);
 /* Fills the four slices with bytes that look random, from a seed. */
 void scramble(uint64_t seed);
 /* Are the lengths of the four slices those of document 01? */
