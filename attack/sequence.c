@@ -13,7 +13,7 @@
 
 int LLVMFuzzerTestOneInput(const uint8_t *data, size_t size);
 
-enum { STEPS = 64, FEW_STEPS = 8, SMALL = 1 << 20 };
+enum { STEPS = 64, FEW_STEPS = 4, SMALL = 1 << 20 };
 enum { DAMAGE = CALLS, UNDO, WRONG_LENGTHS, HELPER, PROCESS };
 
 /* What a byte of the input, modulo their number, asks for. */
@@ -148,7 +148,7 @@ static void draw_store(input *in) {
     if (size < 240)
         lend_store(1 + tables % 8, 1 + frames % 8, painted);
     else if (size < 255 || tables < 224)
-        lend_store(1 + tables % 32, 1 + frames % 64, painted);
+        lend_store(1 + tables % 24, 1 + frames % 24, painted);
     else
         lend_store(MAX_TABLES - tables % 2, MAX_FRAMES - frames % 2, painted);
     if (fill >= 240)

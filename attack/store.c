@@ -3,6 +3,8 @@
 
 #include "../bench/check.h"
 
+enum { SCRAMBLED = 1 << 16 };
+
 lent slices[SLICES];
 
 static enum { UNKNOWN, WELL, ILL } judged;
@@ -36,7 +38,8 @@ void lend_store(size_t tables, size_t frames, uint8_t byte) {
 
 void scramble(uint64_t seed) {
     for (int i = 0; i < STORE_SLICES; i++) {
-        for (size_t k = 0; k < slices[i].width * slices[i].count; k++) {
+        size_t size = slices[i].width * slices[i].count;
+        for (size_t k = 0; k < size && k < SCRAMBLED; k++) {
             seed = seed * 6364136223846793005 + 1442695040888963407;
             slices[i].start[k] = seed >> 56;
         }

@@ -27,7 +27,7 @@ void make_rooms(void);
 void place_slices(unsigned ends, size_t gap);
 /* Lends a store of these sizes, painted with one byte. */
 void lend_store(size_t tables, size_t frames, uint8_t byte);
-/* Fills the four slices with bytes that look random, from a seed. */
+/* Fills the four slices, or the first 65536 bytes of each, with bytes that look random, from a seed. */
 void scramble(uint64_t seed);
 /* Are the lengths of the four slices those of document 01? */
 bool lengths_right(void);
