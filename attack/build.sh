@@ -44,7 +44,7 @@ build_own() {
 # Builds the attack with libFuzzer, as libfuzzer/attack, on an archive that counts the edges of its code.
 build_libfuzzer() {
     # shellcheck disable=SC2086
-    compile clang libfuzzer $parts
+    compile clang libfuzzer $parts attack/libfuzzer
     clang -fsanitize=fuzzer "$out"/libfuzzer/*.o "$archive" -o "$out/libfuzzer/attack" || fail "the attack was not linked"
 }
 

@@ -64,22 +64,22 @@ _Noreturn void found(const char *what) {
     abort();
 }
 
-/* Says which guard was touched. What is called here is not made for a signal, but the program ends with it. */
+/* Says which guard was touched, if one was. What is called here is not made for a signal, but the program ends with it.
+ */
 static void touched(int signal_number, siginfo_t *info, void *context) {
     static char what[100];
     (void)context;
-    const char *where = "no slice";
+    const char *where = "none";
     for (int i = 0; i < SLICES; i++)
         if (in_guard(&slices[i], info->si_addr))
             where = slices[i].name;
-    snprintf(what, sizeof what, "signal %d: memory that was not lent is touched, beside: %s", signal_number, where);
+    snprintf(what, sizeof what, "signal %d, by a touch of memory beside these slices: %s", signal_number, where);
     found(what);
 }
 
-void watch_guards(void) {
+void watch_signals(void) {
+    static const int watched[] = {SIGSEGV, SIGBUS, SIGILL, SIGTRAP, SIGFPE};
     struct sigaction action = {.sa_sigaction = touched, .sa_flags = SA_SIGINFO | SA_RESETHAND};
-    sigaction(SIGSEGV, &action, NULL);
-    sigaction(SIGBUS, &action, NULL);
-    sigaction(SIGILL, &action, NULL);
-    sigaction(SIGTRAP, &action, NULL);
+    for (size_t i = 0; i < sizeof watched / sizeof *watched; i++)
+        sigaction(watched[i], &action, NULL);
 }

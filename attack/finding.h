@@ -14,7 +14,7 @@ void end_call(uint64_t number, uint64_t value);
 /* Prints what is wrong, the call, its numbers, the slices and the input, writes the input to the file `finding`, and
  * aborts. */
 _Noreturn void found(const char *what);
-/* A touch of memory that was not lent is a finding too. */
-void watch_guards(void);
+/* From here on a touch of memory that was not lent is a finding too, and so is every other signal of a fault. */
+void watch_signals(void);
 
 #endif

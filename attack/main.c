@@ -1,15 +1,17 @@
 /* main.c: a driver for machines without libFuzzer. It runs the inputs of a folder or a file, and then random inputs and
  * changed ones of the folder, from a fixed seed, until there were enough. */
 #include <dirent.h>
+#include <signal.h>
 #include <stdio.h>
 #include <stdlib.h>
 #include <string.h>
+#include <unistd.h>
 
+#include "finding.h"
+#include "sequence.h"
 #include "tally.h"
 
-int LLVMFuzzerTestOneInput(const uint8_t *data, size_t size);
-
-enum { MOST_FILES = 4000, MOST_BYTES = 512 };
+enum { MOST_FILES = 4000, MOST_BYTES = 512, MOST_SECONDS = 60 };
 
 typedef struct {
     uint8_t bytes[MOST_BYTES];
@@ -74,14 +76,25 @@ static sample drawn(void) {
     return changed;
 }
 
+static void late(int signal_number) {
+    (void)signal_number;
+    found("an input that takes too long");
+}
+
+static void run(const sample *s) {
+    alarm(MOST_SECONDS);
+    run_sequence(s->bytes, s->size);
+}
+
 int main(int argc, char **argv) {
+    signal(SIGALRM, late);
     for (int i = 1; i < argc; i++)
         read_samples(argv[i]);
     for (size_t i = 0; i < sample_count; i++)
-        LLVMFuzzerTestOneInput(samples[i].bytes, samples[i].size);
+        run(&samples[i]);
     while (!enough()) {
         sample s = drawn();
-        LLVMFuzzerTestOneInput(s.bytes, s.size);
+        run(&s);
     }
     print_tally();
     return 0;

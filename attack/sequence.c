@@ -1,7 +1,8 @@
 /* sequence.c: an input of the attack is a store and a sequence of calls on it, with damage and wrong lengths between
  * them. */
+#include "sequence.h"
+
 #include <string.h>
-#include <unistd.h>
 
 #include "damage.h"
 #include "finding.h"
@@ -9,9 +10,6 @@
 #include "input.h"
 #include "judge.h"
 #include "store.h"
-#include "tally.h"
-
-int LLVMFuzzerTestOneInput(const uint8_t *data, size_t size);
 
 enum { STEPS = 64, FEW_STEPS = 4, SMALL = 1 << 20 };
 enum { DAMAGE = CALLS, UNDO, WRONG_LENGTHS, HELPER, PROCESS };
@@ -156,11 +154,11 @@ static void draw_store(input *in) {
     accept_damage();
 }
 
-int LLVMFuzzerTestOneInput(const uint8_t *data, size_t size) {
+void run_sequence(const uint8_t *data, size_t size) {
     input in = {data, data + size};
     if (slices[WORDS].room == NULL) {
         make_rooms();
-        watch_guards();
+        watch_signals();
     }
     begin_input(data, size);
     draw_store(&in);
@@ -169,9 +167,4 @@ int LLVMFuzzerTestOneInput(const uint8_t *data, size_t size) {
     size_t most = slices[BYTES].count < SMALL ? STEPS : FEW_STEPS;
     for (size_t i = 0; i < most && !spent(&in); i++)
         step(&in);
-    if (enough()) {
-        print_tally();
-        _exit(0);
-    }
-    return 0;
 }
