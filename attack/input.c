@@ -1,16 +1,9 @@
 /* input.c: draws numbers, most of them close to a bound of document 01. */
 #include "input.h"
 
+#include "addresses.h"
 #include "store.h"
 
-#define MAXVA ((uint64_t)1 << 38)
-#define TRAMPOLINE 0x3FFFFFF000u
-#define TRAPFRAME 0x3FFFFFE000u
-#define HELD 0x100000000u
-#define POOL 0x110000000u
-#define HELD_END 0x120000000u
-#define FOREIGN 0x80000000u
-#define MAXPA ((uint64_t)1 << 56)
 #define LENGTH(list) (sizeof(list) / sizeof *(list))
 
 bool spent(const input *in) { return in->at == in->end; }

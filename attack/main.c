@@ -55,7 +55,9 @@ static void read_samples(const char *path) {
         snprintf(name, sizeof name, "%s/%s", path, entries[i]->d_name);
         if (entries[i]->d_name[0] != '.')
             read_file(name);
+        free(entries[i]);
     }
+    free(entries);
 }
 
 /* A sample with a few bytes changed and its tail sometimes that of another, or random bytes. */

@@ -4,6 +4,7 @@
 
 #include <string.h>
 
+#include "addresses.h"
 #include "damage.h"
 #include "finding.h"
 #include "helpers.h"
@@ -91,10 +92,10 @@ static void make_process(input *in) {
     const ronakvesh_reply root = judged_call(UVMCREATE, NULL);
     if (root.number != 0)
         return;
-    const uint64_t trampoline[] = {root.value, 0x3FFFFFF000, 0x80000000, 4096, 10};
-    const uint64_t trapframe[] = {root.value, 0x3FFFFFE000, 0x90000000, 4096, 6};
-    const uint64_t grown[] = {root.value, 0, (uint64_t)4096 * (byte % 8)};
-    const uint64_t grown_there[] = {root.value, 0x3FFFFFE000 + (uint64_t)4096 * (byte % 2), (uint64_t)1 << 38};
+    const uint64_t trampoline[] = {root.value, TRAMPOLINE, FOREIGN, PAGE_BYTES, 10};
+    const uint64_t trapframe[] = {root.value, TRAPFRAME, FOREIGN + PAGE_BYTES, PAGE_BYTES, 6};
+    const uint64_t grown[] = {root.value, 0, (uint64_t)PAGE_BYTES * (byte % 8)};
+    const uint64_t grown_there[] = {root.value, byte % 2 ? TRAMPOLINE : TRAPFRAME, MAXVA};
     if (byte >= 240)
         judged_call(UVM_ALLOC, grown_there);
     else
@@ -137,8 +138,7 @@ static void step(input *in) {
     }
 }
 
-/* Lends a store that is mostly small: 1 to 8 tables and frames, seldom more, and very seldom as many as there may be.
- */
+/* Lends a store that is mostly small: 1 to 8 tables and frames, seldom more, and very seldom as many as may be. */
 static void draw_store(input *in) {
     uint8_t size = next_byte(in), tables = next_byte(in), frames = next_byte(in), ends = next_byte(in);
     uint8_t gap = next_byte(in), fill = next_byte(in), painted = fill < 224 ? 0 : fill;
