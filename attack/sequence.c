@@ -138,7 +138,8 @@ static void step(input *in) {
     }
 }
 
-/* Lends a store that is mostly small: 1 to 8 tables and frames, seldom more, and very seldom as many as may be. */
+/* Lends a store that is mostly small: 1 to 8 tables and frames, seldom more, and very seldom as many tables as may be,
+ * and then now and then as many frames. */
 static void draw_store(input *in) {
     uint8_t size = next_byte(in), tables = next_byte(in), frames = next_byte(in), ends = next_byte(in);
     uint8_t gap = next_byte(in), fill = next_byte(in), painted = fill < 224 ? 0 : fill;
@@ -148,7 +149,7 @@ static void draw_store(input *in) {
     else if (size < 255 || tables < 224)
         lend_store(1 + tables % 24, 1 + frames % 24, painted);
     else
-        lend_store(MAX_TABLES - tables % 2, MAX_FRAMES - frames % 2, painted);
+        lend_store(MAX_TABLES - tables % 2, frames < 224 ? 1 + frames % 24 : MAX_FRAMES - frames % 2, painted);
     if (fill >= 240)
         scramble(fill);
     accept_damage();
@@ -162,9 +163,10 @@ void run_sequence(const uint8_t *data, size_t size) {
     }
     begin_input(data, size);
     draw_store(&in);
-    for (uint8_t roots = next_byte(&in) % 4; roots > 0; roots--)
+    bool small = slices[BYTES].count < SMALL;
+    for (uint8_t roots = next_byte(&in) % (small ? 4 : 2); roots > 0; roots--)
         make_process(&in);
-    size_t most = slices[BYTES].count < SMALL ? STEPS : FEW_STEPS;
+    size_t most = small ? STEPS : FEW_STEPS;
     for (size_t i = 0; i < most && !spent(&in); i++)
         step(&in);
 }
