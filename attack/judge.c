@@ -46,8 +46,30 @@ static bool all_zero(void) {
     return true;
 }
 
-/* Is the value of an answer one that document 01 allows? The calls that are not named here answer a number of tables or
- * 0. */
+/* The mark of a table before the call. */
+static uint32_t mark_before(size_t t) {
+    uint32_t mark;
+    memcpy(&mark, kept_slice(&slices[TABLE_MARKS]) + sizeof mark * t, sizeof mark);
+    return mark;
+}
+
+/* How many tables are free now, less how many were before the call. */
+static uint64_t tables_freed(void) {
+    uint64_t more = 0;
+    for (size_t t = 0; t < slices[TABLE_MARKS].count; t++)
+        more += (THE_TABLE_MARKS[t] == 0) - (mark_before(t) == 0);
+    return more;
+}
+
+/* The lowest table that was free before the call. */
+static uint64_t lowest_free(void) {
+    uint64_t t = 0;
+    while (t < slices[TABLE_MARKS].count && mark_before(t) != 0)
+        t++;
+    return t;
+}
+
+/* Is the value of an answer one that document 01 allows? The calls that are not named here answer 0. */
 static bool value_fits(int number, const uint64_t *n, uint64_t value) {
     switch (number) {
     case CHECK:
@@ -57,7 +79,7 @@ static bool value_fits(int number, const uint64_t *n, uint64_t value) {
     case AS_SATP:
         return value == 0x8000000000100000 + n[0];
     case UVMCREATE:
-        return is_root(value);
+        return value == lowest_free() && is_root(value);
     case UVM_ALLOC:
         return value == (n[2] < n[1] ? n[1] : n[2]);
     case UVM_DEALLOC:
@@ -68,9 +90,9 @@ static bool value_fits(int number, const uint64_t *n, uint64_t value) {
     case UVM_FREE:
     case FREE_SHARED:
     case PROC_FREE:
-        return value >= 1 && value <= slices[TABLE_MARKS].count && THE_TABLE_MARKS[n[0]] == 0;
+        return value == tables_freed() && THE_TABLE_MARKS[n[0]] == 0;
     case MAP:
-        return value < slices[TABLE_MARKS].count;
+        return value == -tables_freed();
     default:
         return value == 0;
     }

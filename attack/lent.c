@@ -54,14 +54,16 @@ void paint(lent *l, size_t count, uint8_t byte) {
 
 bool unchanged(const lent *l) { return memcmp(l->kept, l->start - front(l), front(l) + size_of(l) + back(l)) == 0; }
 
+const uint8_t *kept_slice(const lent *l) { return l->kept + front(l); }
+
 bool margins_unchanged(const lent *l) {
-    const uint8_t *behind = l->kept + front(l) + size_of(l);
+    const uint8_t *behind = kept_slice(l) + size_of(l);
     return memcmp(l->kept, l->start - front(l), front(l)) == 0 && memcmp(behind, l->start + size_of(l), back(l)) == 0;
 }
 
 bool unchanged_from(const lent *l, size_t first) {
     size_t skipped = l->width * first;
-    return memcmp(l->kept + front(l) + skipped, l->start + skipped, size_of(l) - skipped) == 0;
+    return memcmp(kept_slice(l) + skipped, l->start + skipped, size_of(l) - skipped) == 0;
 }
 
 bool in_guard(const lent *l, const void *address) {

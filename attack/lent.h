@@ -34,6 +34,8 @@ bool unchanged(const lent *l);
 bool margins_unchanged(const lent *l);
 /* Does the slice hold what was kept from its element number first on? */
 bool unchanged_from(const lent *l, size_t first);
+/* What the slice held when it was last kept. */
+const uint8_t *kept_slice(const lent *l);
 /* Does this address lie in a guard of the slice? */
 bool in_guard(const lent *l, const void *address);
 
