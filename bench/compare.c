@@ -67,6 +67,6 @@ void compare_changed(store *s, size_t ntables, size_t count) {
             expect("ours, unlike C,", "a change of", k, ask(ronakvesh_check, s), wanted);
             well += wanted.value;
         }
-    printf("%zu changed stores of %zu tables: the same answers (%zu well formed, %zu not)\n", count * KINDS, ntables,
-           well, count * KINDS - well);
+    fprintf(stderr, "%zu changed stores of %zu tables: the same answers (%zu well formed, %zu not)\n", count * KINDS,
+            ntables, well, count * KINDS - well);
 }

@@ -1,7 +1,11 @@
-/* main.c: compares the checks, then times them, and prints the figures. */
+/* main.c: compares the checks, then times them, or times what a judge asks of ranges. It prints a line for each store
+ * or range, as oracle/src/times.rs does for each case: its parts apart by tabs, - for what there is not.
+ * usage: bench checks|ranges */
 #include <stdio.h>
+#include <string.h>
 
 #include "compare.h"
+#include "ranges.h"
 #include "timing.h"
 
 #define VISITS 5 /* to each store, between visits to the others: a disturbed while spoils one visit, not a store */
@@ -13,15 +17,13 @@ typedef struct {
     times times;
 } line;
 
-/* The lines: every kind at full size, then the growth of two kinds. */
-enum { GROWTH = KINDS, LINES = KINDS + 6 };
+/* The lines: the growth of two kinds, then the other kinds at full size. */
+enum { LINES = KINDS + 4 };
 
 static void plan(line lines[LINES]) {
     size_t n = 0;
     for (size_t k = 0; k < KINDS; k++)
-        lines[n++] = (line){&kinds[k], MAX_TABLES, no_times()};
-    for (size_t k = FRESH; k <= FULL_FOREIGN; k++)
-        for (size_t ntables = 8; ntables <= MAX_TABLES; ntables *= 8)
+        for (size_t ntables = k <= FULL_FOREIGN ? 8 : MAX_TABLES; ntables <= MAX_TABLES; ntables *= 8)
             lines[n++] = (line){&kinds[k], ntables, no_times()};
 }
 
@@ -41,29 +43,31 @@ static void visit(line *l, store *s) {
 }
 
 static void print_line(const line *l) {
-    const double *best = l->times.best;
-    printf("%-14s %7zu %10.2f %11.1f %8.2f %10.2f %10.2f\n", l->kind->name, l->ntables, best[OURS] / 1000,
-           best[OURS] / (double)l->ntables, best[OURS] / best[C], best[OURS] / best[RUST], best[OURS] / best[ONCE]);
+    static const char *const names[CALLS] = {[C] = "C", [RUST] = "Rust", [ONCE] = "reading once"};
+    printf("check, %s\t%zu\t0\t%.2f\t-\t-", l->kind->name, l->ntables, l->times.best[OURS]);
+    for (size_t i = C; i < CALLS; i++)
+        printf("\t%s\t%.2f\t1", names[i], l->times.best[i]);
+    printf("\n");
 }
 
-static void print_lines(const line *from, const line *end) {
-    printf("%-14s %7s %10s %11s %8s %10s %10s\n", "store", "tables", "ours us", "ns a table", "ours/C", "ours/Rust",
-           "ours/once");
-    for (const line *l = from; l < end; l++)
-        print_line(l);
-}
-
-int main(void) {
+static void time_checks(store *s) {
     static line lines[LINES];
-    store s = new_store();
-    compare(&s);
+    compare(s);
     plan(lines);
     for (int v = 0; v < VISITS; v++)
         for (size_t n = 0; n < LINES; n++)
-            visit(&lines[n], &s);
-    printf("\nThe best time of one check, and its ratio to the other calls; 8 frames for each table.\n\n");
-    print_lines(lines, lines + GROWTH);
-    printf("\nGrowth\n\n");
-    print_lines(lines + GROWTH, lines + LINES);
+            visit(&lines[n], s);
+    for (size_t n = 0; n < LINES; n++)
+        print_line(&lines[n]);
+}
+
+int main(int argc, char **argv) {
+    store s = new_store();
+    if (argc == 2 && strcmp(argv[1], "checks") == 0)
+        time_checks(&s);
+    else if (argc == 2 && strcmp(argv[1], "ranges") == 0)
+        time_ranges(&s);
+    else
+        return fputs("usage: bench checks|ranges\n", stderr), 2;
     return 0;
 }

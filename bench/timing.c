@@ -13,7 +13,7 @@ static check *const calls[CALLS] = {[OURS] = ronakvesh_check, [C] = check_c, [RU
 /* Takes every answer, so that none is left out. */
 static volatile uint64_t taken;
 
-static double now(void) {
+double now(void) {
     struct timespec t;
     clock_gettime(CLOCK_MONOTONIC, &t);
     return 1e9 * (double)t.tv_sec + (double)t.tv_nsec;

@@ -11,6 +11,8 @@ typedef struct {
     double best[CALLS];
 } times;
 
+/* The nanoseconds that a clock shows. */
+double now(void);
 /* Before anything is timed. */
 times no_times(void);
 /* Times the calls on the store for a while, and keeps the best of this and of what t has. */

@@ -96,16 +96,17 @@ macro_rules! handed {
     };
 }
 
-/// Declares calls, each by the name that it has here, its own name and the names of its numbers; `name: bool` is handed
-/// over as whether it is other than 0. Where the call has a buffer, its name comes last, after a `;`. A lent slice goes
+/// Declares calls, each by the name that it has here, its own name, which in the archive has the text before it, and the
+/// names of its numbers; `name: bool` is handed over as whether it is other than 0. Where the call has a buffer, its name comes last, after a `;`. A lent slice goes
 /// to the call as a pointer to the first element, then how many elements there are.
 ///
 /// # Safety of each
 /// The slices are there and do not overlap, and those that the call writes to may be written.
 macro_rules! calls {
-    ($($name:ident = $export:ident($($number:ident $(: $kind:ident)?),* $(; $buffer:ident)?);)*) => {
+    ($before:literal $($name:ident = $export:ident($($number:ident $(: $kind:ident)?),* $(; $buffer:ident)?);)*) => {
         unsafe extern "C" {
-            $(fn $export(
+            $(#[link_name = concat!($before, stringify!($export))]
+            fn $export(
                 words: *mut u64,
                 words_length: usize,
                 table_marks: *mut u32,
@@ -141,24 +142,32 @@ macro_rules! calls {
     };
 }
 
-calls! {
-    set_up = ronakvesh_set_up();
-    check = ronakvesh_check();
-    pgt_translate = ronakvesh_pgt_translate(root, va);
-    as_satp = ronakvesh_as_satp(root);
-    uvmcreate = ronakvesh_uvmcreate();
-    map = ronakvesh_map(root, va, pa, size, permissions);
-    uvm_unmap = ronakvesh_uvm_unmap(root, va, pages, freeing: bool);
-    uvm_clear = ronakvesh_uvm_clear(root, va);
-    uvm_init = ronakvesh_uvm_init(root; src);
-    uvm_alloc = ronakvesh_uvm_alloc(root, old, new);
-    uvm_dealloc = ronakvesh_uvm_dealloc(root, old, new);
-    copy_in = ronakvesh_copy_in(root, va; dst);
-    copy_out = ronakvesh_copy_out(root, va; src);
-    copy_in_str = ronakvesh_copy_in_str(root, va; dst);
-    uvm_copy = ronakvesh_uvm_copy(parent, child, size);
-    free = ronakvesh_free(root);
-    uvm_free = ronakvesh_uvm_free(root, size);
-    free_shared_user_pagetable = ronakvesh_free_shared_user_pagetable(root, size);
-    proc_free_pagetable = ronakvesh_proc_free_pagetable(root, size);
+/// Declares every call, of an archive in which their names have this text before them.
+macro_rules! every_call {
+    ($before:literal) => {
+        calls! {
+            $before
+            set_up = ronakvesh_set_up();
+            check = ronakvesh_check();
+            pgt_translate = ronakvesh_pgt_translate(root, va);
+            as_satp = ronakvesh_as_satp(root);
+            uvmcreate = ronakvesh_uvmcreate();
+            map = ronakvesh_map(root, va, pa, size, permissions);
+            uvm_unmap = ronakvesh_uvm_unmap(root, va, pages, freeing: bool);
+            uvm_clear = ronakvesh_uvm_clear(root, va);
+            uvm_init = ronakvesh_uvm_init(root; src);
+            uvm_alloc = ronakvesh_uvm_alloc(root, old, new);
+            uvm_dealloc = ronakvesh_uvm_dealloc(root, old, new);
+            copy_in = ronakvesh_copy_in(root, va; dst);
+            copy_out = ronakvesh_copy_out(root, va; src);
+            copy_in_str = ronakvesh_copy_in_str(root, va; dst);
+            uvm_copy = ronakvesh_uvm_copy(parent, child, size);
+            free = ronakvesh_free(root);
+            uvm_free = ronakvesh_uvm_free(root, size);
+            free_shared_user_pagetable = ronakvesh_free_shared_user_pagetable(root, size);
+            proc_free_pagetable = ronakvesh_proc_free_pagetable(root, size);
+        }
+    };
 }
+
+every_call!("");

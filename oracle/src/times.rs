@@ -1,47 +1,52 @@
-//! Times proved calls against the Rust's own, on the same memory, in turns: `map` and `pgt_translate`, or `uvm_alloc` and
-//! `uvm_dealloc`, or `free`; or `copy_in`, `copy_out` and `uvm_copy` against `memcpy`. First both are compared on each case
-//! that is timed.
-//! usage: times map|grow|copies|release
+//! Times proved calls, with their check and without it, against the Rust's own and against the C library, on the same memory,
+//! in turns. First all are compared on each case that is timed. It prints a line for each case, its parts apart by tabs: the
+//! call, T, n, nanoseconds with the check, of the check, - where there is none, and without it; then for each other side its
+//! name, its nanoseconds, and 1 where the ratio to it is told.
+//! usage: times CRATE..
 
 #[allow(dead_code)] // declares the helpers too
+#[macro_use]
 mod archive;
 mod time;
 
 use std::process::ExitCode;
+use time::calls::CALLS;
+use time::case::Case;
 use time::clock::{Times, Visit};
-use time::{cases, held, table};
+use time::held;
 
 /// To each case, between visits to the others: a disturbed while spoils some visits, not a case.
-const VISITS: usize = 800;
+const VISITS: usize = 40;
 
 fn main() -> ExitCode {
-    let arguments: Vec<String> = std::env::args().skip(1).collect();
-    let (cases, other) = match arguments.iter().map(String::as_str).collect::<Vec<_>>()[..] {
-        ["map"] => (cases::of_map(), "the Rust"),
-        ["grow"] => (cases::of_grow(), "the Rust"),
-        ["copies"] => (cases::of_copies(), "memcpy"),
-        ["release"] => (cases::of_release(), "the Rust"),
-        _ => {
-            eprintln!("usage: times map|grow|copies|release");
-            return ExitCode::from(2);
-        }
-    };
+    let parts: Vec<String> = std::env::args().skip(1).collect();
+    let calls = CALLS.iter().filter(|call| parts.iter().any(|part| part == call.part));
+    let mut visited: Vec<_> = calls.flat_map(Case::all).map(|case| (case, Vec::new())).collect();
     held::open();
-    let mut visited: Vec<_> = cases.into_iter().map(|case| (case, Vec::new())).collect();
     for (case, _) in &visited {
         if let Err(difference) = case.compare() {
             eprintln!("times: {case}: {difference}");
             return ExitCode::FAILURE;
         }
     }
-    for n in 0..VISITS {
-        for (case, visits) in visited.iter_mut().filter(|(case, _)| n % case.one_of() == 0) {
+    for _ in 0..VISITS {
+        for (case, visits) in &mut visited {
             visits.push(Visit::new(case));
         }
     }
-    table::heading(other);
     for (case, visits) in visited {
-        table::line(&case, &Times::of(visits));
+        print(&case, &Times::of(visits));
     }
     ExitCode::SUCCESS
+}
+
+/// Prints the line of a case. The calls of crate store, below the check, have none.
+fn print(case: &Case, times: &Times) {
+    let Times { check, ours, unchecked, others } = times;
+    let check = if case.call.part == "store" { "-".to_string() } else { format!("{check:.2}") };
+    print!("{}\t{}\t{}\t{ours:.2}\t{check}\t{unchecked:.2}", case.call.name, case.tables, case.pages);
+    for ((name, _), against) in case.others().iter().zip(others) {
+        print!("\t{name}\t{:.2}\t{}", against.time, u8::from(against.is_told));
+    }
+    println!();
 }

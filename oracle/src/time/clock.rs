@@ -1,105 +1,121 @@
-//! Times the sides of a case, which take turns in short visits. The medians of the visits that were disturbed least count.
+//! Times the sides of a case, which take turns in short visits. The visits that were disturbed least count.
 
-use super::cases::Case;
+use super::case::{Case, Side};
 use super::held::Held;
+use super::unchecked;
+use crate::archive::{self, NO_NUMBERS};
+use std::arch::asm;
 use std::hint::black_box;
-use std::time::Instant;
+use std::time::{Duration, Instant};
 
-/// Turns of each side in one visit.
-const TURNS: usize = 25;
+/// How long one visit takes, at least.
+const VISIT: Duration = Duration::from_millis(50);
+/// Rounds of turns in one visit, at least.
+const ROUNDS: usize = 4;
 /// Of this many visits one counts.
-const ONE_OF: usize = 8;
+const ONE_OF: usize = 4;
+/// By how much a ratio may differ between the visits that count and yet be told, where it is 1 or less; else so many times
+/// as much.
+const NOISE: f64 = 0.2;
 
-/// Who is timed.
-#[derive(Clone, Copy)]
-enum Side {
-    /// Nothing but the clock itself.
-    Clock,
-    Check,
-    Ours,
-    Rust,
-}
-
-const SIDES: [Side; 4] = [Side::Clock, Side::Check, Side::Ours, Side::Rust];
-
-/// The nanoseconds that each turn of each side took.
-pub struct Visit([Vec<f64>; SIDES.len()]);
+/// The nanoseconds that each turn of each side took, by side.
+pub struct Visit(Vec<Vec<f64>>);
 
 /// The nanoseconds of one call.
 pub struct Times {
-    pub ours: f64,
     pub check: f64,
-    /// What ours takes longer than the check in the same turn.
-    pub less_check: f64,
-    pub rust: f64,
-    /// By the best turn of each side instead: what ours takes longer than the check, as a part of the Rust's.
-    pub by_best: f64,
+    pub ours: f64,
+    pub unchecked: f64,
+    pub others: Vec<Against>,
+}
+
+/// The nanoseconds of what a call is timed against, and whether the ratio without the check is told.
+pub struct Against {
+    pub time: f64,
+    pub is_told: bool,
 }
 
 impl Visit {
-    /// Times every side for a while.
+    /// Times every side for a while, in turns that go forth and back.
     pub fn new(case: &Case) -> Self {
-        let mut held = case.store();
-        let mut taken = [const { Vec::new() }; SIDES.len()];
-        for n in 0..TURNS {
-            for k in 0..SIDES.len() {
-                let side = SIDES[(n + k) % SIDES.len()];
-                taken[side as usize].push(turn(case, side, &mut held));
+        let (mut held, sides) = (case.store(), case.sides());
+        let mut taken = vec![Vec::new(); sides.len()];
+        let begun = Instant::now();
+        for round in 0.. {
+            if round >= ROUNDS && begun.elapsed() >= VISIT {
+                break;
+            }
+            for k in 0..sides.len() {
+                let side = if round % 2 == 0 { k } else { sides.len() - 1 - k };
+                taken[side].push(turn(case, sides[side], &mut held));
             }
         }
         Visit(taken)
     }
 
-    /// How long its turns took, the less the less it was disturbed.
-    fn length(&self) -> f64 {
-        self.0.iter().map(|times| median(times.clone())).sum()
+    /// The time of each side but the clock's, less that of the clock.
+    fn times(&self) -> Vec<f64> {
+        let times: Vec<f64> = self.0.iter().map(|turns| middle(turns.clone())).collect();
+        times[1..].iter().map(|time| time - times[0]).collect()
     }
 }
 
 impl Times {
-    /// The medians of the visits that were disturbed least.
+    /// Those of the visits that were disturbed least.
     pub fn of(mut visits: Vec<Visit>) -> Self {
-        let by_best = by_best(&visits);
-        visits.sort_by(|one, other| one.length().total_cmp(&other.length()));
+        let length = |visit: &Visit| visit.times().iter().sum::<f64>();
+        visits.sort_by(|one, other| length(one).total_cmp(&length(other)));
         visits.truncate(visits.len().div_ceil(ONE_OF));
-        let all = |side| visits.iter().flat_map(move |visit| visit.0[side as usize].iter().copied());
-        let less_check = all(Side::Ours).zip(all(Side::Check)).map(|(ours, check)| ours - check);
-        let clock = median(all(Side::Clock).collect());
-        let of = |side| median(all(side).collect()) - clock;
-        Times {
-            ours: of(Side::Ours),
-            check: of(Side::Check),
-            less_check: median(less_check.collect()),
-            rust: of(Side::Rust),
-            by_best,
-        }
+        let each: Vec<Vec<f64>> = visits.iter().map(Visit::times).collect();
+        let of = |side: usize| middle(each.iter().map(|times| times[side]).collect());
+        let against = |side| Against { time: of(side), is_told: is_told(&each, side) };
+        Times { check: of(0), ours: of(1), unchecked: of(2), others: (3..each[0].len()).map(against).collect() }
     }
+}
+
+/// Whether the middle half of the ratios to a side lies close together.
+fn is_told(each: &[Vec<f64>], side: usize) -> bool {
+    let mut ratios: Vec<f64> = each.iter().map(|times| times[2] / times[side]).collect();
+    ratios.sort_by(f64::total_cmp);
+    let (low, high) = (ratios[ratios.len() / 4], ratios[ratios.len() * 3 / 4]);
+    low > 0.0 && high - low <= NOISE * high.max(1.0)
 }
 
 /// The nanoseconds of one call. Before it the store is what it was, and the check has read it, so that each side finds it
-/// in the same caches.
+/// in the same caches; what answers in the check's place was called too, as the check is, and is in them as well. No call
+/// begins before all that was before it is done.
 fn turn(case: &Case, side: Side, held: &mut Held) -> f64 {
-    case.restore(held);
-    black_box(case.check(held));
+    held.restore();
+    black_box(held.call(archive::check, NO_NUMBERS));
+    black_box(held.call(unchecked::check, NO_NUMBERS));
     let case = black_box(case);
+    settle();
     let begun = Instant::now();
-    match side {
-        Side::Clock => {}
-        Side::Check => _ = black_box(case.check(held)),
-        Side::Ours => _ = black_box(case.ours(held)),
-        Side::Rust => _ = black_box(case.rust(held)),
+    settle();
+    for _ in 0..case.in_a_row() {
+        case.run(side, held);
+        settle();
     }
-    begun.elapsed().as_nanos() as f64
+    begun.elapsed().as_nanos() as f64 / f64::from(case.in_a_row())
 }
 
-/// The ratio by the best turn of each side, of all visits.
-fn by_best(visits: &[Visit]) -> f64 {
-    let best = |side| visits.iter().flat_map(|visit| &visit.0[side as usize]).copied().fold(f64::INFINITY, f64::min);
-    (best(Side::Ours) - best(Side::Check)) / (best(Side::Rust) - best(Side::Clock))
+/// Waits until all that is under way is done.
+fn settle() {
+    // SAFETY: no register and no memory is changed.
+    #[cfg(target_arch = "x86_64")]
+    unsafe {
+        asm!("lfence")
+    };
+    // SAFETY: as above.
+    #[cfg(target_arch = "aarch64")]
+    unsafe {
+        asm!("dsb sy", "isb")
+    };
 }
 
-/// The median.
-fn median(mut times: Vec<f64>) -> f64 {
+/// The mean of the middle half.
+fn middle(mut times: Vec<f64>) -> f64 {
     times.sort_by(f64::total_cmp);
-    times[times.len() / 2]
+    let half = &times[times.len() / 4..times.len() - times.len() / 4];
+    half.iter().sum::<f64>() / half.len() as f64
 }

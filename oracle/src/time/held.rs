@@ -1,5 +1,6 @@
 //! The store that is timed: its words lie in the held window, so that both sides work on the same memory.
 
+use crate::archive::{Numbers, Reply, Slices};
 use kernel::boxed;
 use kernel::window::{self, FRAMES_AT, PAGE, TABLES_AT};
 use std::ffi::{c_int, c_void};
@@ -18,11 +19,16 @@ unsafe extern "C" {
     fn madvise(address: *mut c_void, length: usize, advice: c_int) -> c_int;
 }
 
-/// A store with one root, table 0, and a buffer. There is one at a time, since all of them have the same words.
+/// A call of an archive. A store's slices may always be lent to it.
+pub type Lent = unsafe fn(Slices, Numbers) -> Reply;
+
+/// A store and a buffer, and what it goes back to: the words that are not zero, by number, and the marks. There is one at a
+/// time, since all of them have the same words.
 pub struct Held {
     pub table_marks: Vec<u32>,
     pub frame_marks: Vec<u32>,
     pub buffer: Vec<u8>,
+    saved: Option<(Vec<(usize, u64)>, Vec<u32>, Vec<u32>)>,
 }
 
 /// Makes the window ready, with its words in a large page where there is one. To be called once, before all else here.
@@ -33,20 +39,13 @@ pub fn open() {
 }
 
 impl Held {
-    /// A store of this many tables and frames, in which nothing but the root is taken, and a buffer of this length.
+    /// A store of this many tables and frames, with one root, table 0, and nothing else, and a buffer of this length.
     pub fn new(tables: usize, frames: usize, buffer: usize) -> Self {
-        let mut held = Held { table_marks: vec![0; tables], frame_marks: vec![0; frames], buffer: vec![0; buffer] };
-        held.restore();
+        let (table_marks, frame_marks) = (vec![0; tables], vec![0; frames]);
+        let mut held = Held { table_marks, frame_marks, buffer: vec![0; buffer], saved: None };
+        held.words_mut().fill(0);
+        held.table_marks[0] = ROOT;
         held
-    }
-
-    /// Makes it what `new` gives, and has the Rust know which of its pages are free.
-    pub fn restore(&mut self) {
-        self.words_mut().fill(0);
-        self.table_marks.fill(0);
-        self.table_marks[0] = ROOT;
-        self.frame_marks.fill(0);
-        self.tell_free();
     }
 
     /// Hangs this many tables below the root, from table 1 on: that at its entry 0, and the others below that one.
@@ -58,9 +57,47 @@ impl Held {
         }
     }
 
-    /// Has the Rust know which of its pages are free.
-    pub fn tell_free(&self) {
+    /// Has it go back to the words and marks that it has now.
+    pub fn save(&mut self) {
+        let words = self.words().iter().copied().enumerate().filter(|&(_, word)| word != 0).collect();
+        self.saved = Some((words, self.table_marks.clone(), self.frame_marks.clone()));
+    }
+
+    /// Goes back to the words and marks that were saved, and has the Rust know which of its pages are free.
+    pub fn restore(&mut self) {
+        let saved = self.saved.take().expect("the store is saved");
+        let words = self.words_mut();
+        words.fill(0);
+        saved.0.iter().for_each(|&(number, word)| words[number] = word);
+        self.table_marks.copy_from_slice(&saved.1);
+        self.frame_marks.copy_from_slice(&saved.2);
+        self.saved = Some(saved);
         boxed::set_free(&self.table_marks, &self.frame_marks);
+    }
+
+    /// Writes something to the frames and something else to the buffer, none of it zero and no two frames alike nearby.
+    pub fn fill(&mut self) {
+        let (bytes, buffer) = self.bytes_and_buffer();
+        repeat(bytes, 251);
+        repeat(buffer, 241);
+    }
+
+    /// Makes a call.
+    pub fn call(&mut self, call: Lent, numbers: Numbers) -> Reply {
+        let slices = Slices {
+            words: self.words_mut(),
+            table_marks: &mut *self.table_marks,
+            bytes: self.bytes_mut(),
+            frame_marks: &mut *self.frame_marks,
+            buffer: &mut *self.buffer,
+        };
+        // SAFETY: the slices are there and none of them overlap, and all of them may be written.
+        unsafe { call(slices, numbers) }
+    }
+
+    /// Makes a call that must not be refused.
+    pub fn must(&mut self, call: Lent, numbers: Numbers) {
+        assert!(self.call(call, numbers).number == 0, "what a call finds is made");
     }
 
     /// The words, in the window.
@@ -75,15 +112,20 @@ impl Held {
         unsafe { from_raw_parts_mut(TABLES_AT as *mut u64, ENTRIES * self.table_marks.len()) }
     }
 
-    /// The bytes of the frames, in the window.
-    pub fn bytes(&self) -> &[u8] {
-        // SAFETY: as above.
-        unsafe { from_raw_parts(FRAMES_AT as *const u8, PAGE * self.frame_marks.len()) }
+    /// The bytes of the frames, in the window, to be written.
+    pub fn bytes_mut(&mut self) -> &mut [u8] {
+        self.bytes_and_buffer().0
     }
 
-    /// The bytes, to be written.
-    pub fn bytes_mut(&mut self) -> &mut [u8] {
-        // SAFETY: as above, and the store is had mutably here.
-        unsafe { from_raw_parts_mut(FRAMES_AT as *mut u8, PAGE * self.frame_marks.len()) }
+    /// These and the buffer.
+    pub fn bytes_and_buffer(&mut self) -> (&mut [u8], &mut [u8]) {
+        // SAFETY: as above.
+        (unsafe { from_raw_parts_mut(FRAMES_AT as *mut u8, PAGE * self.frame_marks.len()) }, &mut self.buffer)
     }
+}
+
+/// Writes 1 up to a number to some bytes, again and again.
+fn repeat(bytes: &mut [u8], last: u8) {
+    let row: Vec<u8> = (1..=last).cycle().take(usize::from(last) * PAGE).collect();
+    bytes.chunks_mut(row.len()).for_each(|part| part.copy_from_slice(&row[..part.len()]));
 }

@@ -1,9 +1,10 @@
-//! Times the proved calls and the Rust's, or `memcpy`, on one memory.
+//! Times the proved calls, with their check and without it, and the Rust's or the C library's, on one memory.
 
-pub mod cases;
+pub mod calls;
+pub mod case;
 pub mod clock;
 pub mod held;
-pub mod memcpy;
-pub mod ours;
+pub mod memory;
 pub mod rust;
-pub mod table;
+pub mod stores;
+pub mod unchecked;
