@@ -18,9 +18,9 @@ function micro(time) {
     return sprintf(time < 9999.5 ? "%.3f" : "%.1f", time / 1000)
 }
 
-# A ratio, where it is told; never to what takes less than a nanosecond.
+# A ratio, where it is told; never to what takes less than two nanoseconds, which the clock does not tell.
 function ratio(time, other, told) {
-    if (!told || other < 1) return "not told"
+    if (!told || other < 2) return "not told"
     return sprintf(time / other < 99.5 ? "%.2f" : "%.0f", time / other)
 }
 

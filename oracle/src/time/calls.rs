@@ -22,11 +22,11 @@ pub struct Call {
     pub library: Option<(&'static str, Other)>,
     /// Makes the store that it finds, for a number of pages.
     pub finds: fn(&mut Held, u64),
-    /// What it is called with, for a number of pages.
-    pub numbers: fn(u64) -> Numbers,
+    /// What it is called with, for a number of pages and the calls that follow it in a row, each for pages below its own.
+    pub numbers: fn(u64, u64) -> Numbers,
     /// Whether it has a buffer: of a byte less than the pages have, with which the Rust does not ask for a page more.
     pub has_buffer: bool,
-    /// Whether a second call finds what the first found, so that many are made in a row where there is one page or none.
+    /// Whether many are made in a row where there is one page or none: a second call finds what the first found, or its own page.
     pub repeats: bool,
     /// The numbers of pages in 8 tables with 64 frames, and in 512 with 4,096; 0 where it has none.
     pub in_few: &'static [u64],
@@ -48,7 +48,7 @@ macro_rules! call {
             right_up_to: u64::MAX,
             library: None,
             finds: stores::empty,
-            numbers: |_| NO_NUMBERS,
+            numbers: |_, _| NO_NUMBERS,
             has_buffer: false,
             repeats: false,
             in_few: &[1],
@@ -58,7 +58,7 @@ macro_rules! call {
 }
 
 /// A size of so many pages, behind a root.
-const SIZE: fn(u64) -> Numbers = |pages| [0, 4096 * pages, 0, 0, 0];
+const SIZE: fn(u64, u64) -> Numbers = |pages, _| [0, 4096 * pages, 0, 0, 0];
 /// Pages with pool frames, in few tables and in many.
 const POOL: (&[u64], &[u64]) = (&[1, 64], &[1, 512, 4096]);
 /// Pages with foreign frames, likewise.
@@ -78,17 +78,25 @@ pub static CALLS: [Call; 18] = [
     Call { in_few: NONE, in_many: NONE, repeats: true, ..call!(walk, as_satp) },
     Call { in_few: NONE, in_many: NONE, ..call!(map, uvmcreate) },
     Call {
-        numbers: |pages| [0, 0, stores::FOREIGN, 4096 * pages, stores::RIGHTS],
+        numbers: |pages, _| [0, 0, stores::FOREIGN, 4096 * pages, stores::RIGHTS],
         in_few: FOREIGN.0,
         in_many: FOREIGN.1,
         ..call!(map, map)
     },
     Call { has_buffer: true, ..call!(grow, uvm_init) },
-    Call { numbers: |pages| [0, 0, 4096 * pages, 0, 0], in_few: POOL.0, in_many: POOL.1, ..call!(grow, uvm_alloc) },
-    Call { finds: stores::grown, numbers: SIZE, in_few: POOL.0, in_many: POOL.1, ..call!(grow, uvm_dealloc) },
+    Call { numbers: |pages, _| [0, 0, 4096 * pages, 0, 0], in_few: POOL.0, in_many: POOL.1, ..call!(grow, uvm_alloc) },
+    Call {
+        finds: stores::grown,
+        numbers: |pages, left| [0, 4096 * pages * (left + 1), 4096 * pages * left, 0, 0],
+        repeats: true,
+        in_few: POOL.0,
+        in_many: POOL.1,
+        ..call!(grow, uvm_dealloc)
+    },
     Call {
         finds: stores::mapped,
-        numbers: |pages| [0, 0, pages, 0, 0],
+        numbers: |pages, left| [0, 4096 * pages * left, pages, 0, 0],
+        repeats: true,
         in_few: FOREIGN.0,
         in_many: FOREIGN.1,
         ..call!(unmap, uvm_unmap)
@@ -97,7 +105,7 @@ pub static CALLS: [Call; 18] = [
     Call {
         library: Some(("memcpy", memory::uvm_copy)),
         finds: stores::with_child,
-        numbers: |pages| [0, 1, 4096 * pages, 0, 0],
+        numbers: |pages, _| [0, 1, 4096 * pages, 0, 0],
         in_few: &[1, 32],
         in_many: &[1, 512, 2048],
         ..call!(copies, uvm_copy)

@@ -6,11 +6,8 @@ use crate::archive::{self, Reply, NO_NUMBERS};
 use std::fmt;
 use std::hint::black_box;
 
-/// The tables of a small store, and of a large one.
-const FEW: usize = 8;
-const MANY: usize = 512;
-/// Calls in a row where they are repeated: in a small store, where the clock is not short beside one of them.
-const IN_A_ROW: u32 = 16;
+/// Calls in a row where they are repeated, since the clock is not short beside one of them.
+const IN_A_ROW: u64 = 16;
 
 pub struct Case {
     pub call: &'static Call,
@@ -34,7 +31,7 @@ impl Case {
     /// Every case of a call.
     pub fn all(call: &'static Call) -> impl Iterator<Item = Self> {
         let of = move |tables, frames| move |&pages: &u64| Case { call, tables, frames, pages };
-        call.in_few.iter().map(of(FEW, 64)).chain(call.in_many.iter().map(of(MANY, 4096)))
+        call.in_few.iter().map(of(8, 64)).chain(call.in_many.iter().map(of(512, 4096)))
     }
 
     /// What it is timed against, by name: the Rust where it is right, and the C library.
@@ -50,8 +47,8 @@ impl Case {
     }
 
     /// How many calls are made in a row.
-    pub fn in_a_row(&self) -> u32 {
-        if self.call.repeats && self.pages <= 1 && self.tables == FEW {
+    pub fn in_a_row(&self) -> u64 {
+        if self.call.repeats && self.pages <= 1 {
             IN_A_ROW
         } else {
             1
@@ -62,15 +59,15 @@ impl Case {
     pub fn store(&self) -> Held {
         let buffer = if self.call.has_buffer { 4096 * self.pages as usize - 1 } else { 0 };
         let mut held = Held::new(self.tables, self.frames, buffer);
-        (self.call.finds)(&mut held, self.pages);
+        (self.call.finds)(&mut held, self.pages * self.in_a_row());
         held.fill();
         held.save();
         held
     }
 
-    /// Makes the call of a side.
-    pub fn run(&self, side: Side, held: &mut Held) {
-        let numbers = (self.call.numbers)(self.pages);
+    /// Makes the call of a side, which so many others follow in a row.
+    pub fn run(&self, side: Side, held: &mut Held, left: u64) {
+        let numbers = (self.call.numbers)(self.pages, left);
         match side {
             Side::Clock => _ = black_box(numbers),
             Side::Check => _ = black_box(held.call(archive::check, NO_NUMBERS)),
@@ -83,7 +80,7 @@ impl Case {
     /// Whether all sides do what they are to: the same answer, where the other has it, and the same words, bytes and buffer.
     /// The C library is not held to the words.
     pub fn compare(&self) -> Result<(), &'static str> {
-        let numbers = (self.call.numbers)(self.pages);
+        let numbers = (self.call.numbers)(self.pages, self.in_a_row() - 1);
         let mut held = self.store();
         held.restore();
         let Reply { number: 0, value } = held.call(self.call.ours, numbers) else {

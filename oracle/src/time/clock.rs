@@ -55,7 +55,7 @@ impl Visit {
 
     /// The time of each side but the clock's, less that of the clock.
     fn times(&self) -> Vec<f64> {
-        let times: Vec<f64> = self.0.iter().map(|turns| middle(turns.clone())).collect();
+        let times: Vec<f64> = self.0.iter().map(|turns| least(turns)).collect();
         times[1..].iter().map(|time| time - times[0]).collect()
     }
 }
@@ -92,11 +92,11 @@ fn turn(case: &Case, side: Side, held: &mut Held) -> f64 {
     settle();
     let begun = Instant::now();
     settle();
-    for _ in 0..case.in_a_row() {
-        case.run(side, held);
+    for left in (0..case.in_a_row()).rev() {
+        case.run(side, held, left);
         settle();
     }
-    begun.elapsed().as_nanos() as f64 / f64::from(case.in_a_row())
+    begun.elapsed().as_nanos() as f64 / case.in_a_row() as f64
 }
 
 /// Waits until all that is under way is done.
@@ -113,9 +113,19 @@ fn settle() {
     };
 }
 
+/// The mean of the turns that were disturbed least: the lower quarter, without its own lowest quarter.
+fn least(turns: &[f64]) -> f64 {
+    let mut turns = turns.to_vec();
+    turns.sort_by(f64::total_cmp);
+    mean(&turns[turns.len() / 16..turns.len().div_ceil(4)])
+}
+
 /// The mean of the middle half.
 fn middle(mut times: Vec<f64>) -> f64 {
     times.sort_by(f64::total_cmp);
-    let half = &times[times.len() / 4..times.len() - times.len() / 4];
-    half.iter().sum::<f64>() / half.len() as f64
+    mean(&times[times.len() / 4..times.len() - times.len() / 4])
+}
+
+fn mean(times: &[f64]) -> f64 {
+    times.iter().sum::<f64>() / times.len() as f64
 }
