@@ -1,5 +1,5 @@
-# table.awk: makes the one table of the lines that bench and times print: a call, T, n, nanoseconds with the check, of the check
-# and without it; then for each other side its name, its nanoseconds and 1 where the ratio without the check is told.
+# table.awk: makes the one table of the lines that bench and times print: a call, T, n, nanoseconds with the check, of the
+# check and without it; then for each other side its name, its nanoseconds and 1 where the ratio without the check is told.
 BEGIN {
     FS = "\t"
     print "| call | T | n | with check, µs | check, µs | less check, µs | against | its µs | less check / its | with check / its |"
@@ -12,13 +12,14 @@ function grouped(number) {
     return number
 }
 
-# Microseconds.
+# Microseconds. The clock does not tell less than two nanoseconds.
 function micro(time) {
     if (time == "-") return "–"
+    if (time < 2) return "< 0.002"
     return sprintf(time < 9999.5 ? "%.3f" : "%.1f", time / 1000)
 }
 
-# A ratio, where it is told; never to what takes less than two nanoseconds, which the clock does not tell.
+# A ratio, where it is told; never to what the clock does not tell.
 function ratio(time, other, told) {
     if (!told || other < 2) return "not told"
     return sprintf(time / other < 99.5 ? "%.2f" : "%.0f", time / other)

@@ -96,9 +96,10 @@ macro_rules! handed {
     };
 }
 
-/// Declares calls, each by the name that it has here, its own name, which in the archive has the text before it, and the
-/// names of its numbers; `name: bool` is handed over as whether it is other than 0. Where the call has a buffer, its name comes last, after a `;`. A lent slice goes
-/// to the call as a pointer to the first element, then how many elements there are.
+/// Declares calls, each by the name that it has here, its own name and the names of its numbers; `name: bool` is handed
+/// over as whether it is other than 0. Where the call has a buffer, its name comes last, after a `;`. A lent slice goes
+/// to the call as a pointer to the first element, then how many elements there are. In the archive the names of the calls
+/// have the text before them.
 ///
 /// # Safety of each
 /// The slices are there and do not overlap, and those that the call writes to may be written.
@@ -142,7 +143,7 @@ macro_rules! calls {
     };
 }
 
-/// Declares every call, of an archive in which their names have this text before them.
+/// Declares every call, with this text before its name in the archive.
 macro_rules! every_call {
     ($before:literal) => {
         calls! {

@@ -35,7 +35,7 @@ fn main() -> ExitCode {
         }
     }
     for (case, visits) in visited {
-        print(&case, &Times::of(visits));
+        print(&case, &Times::of(&visits));
     }
     ExitCode::SUCCESS
 }

@@ -26,7 +26,7 @@ pub struct Call {
     pub numbers: fn(u64, u64) -> Numbers,
     /// Whether it has a buffer: of a byte less than the pages have, with which the Rust does not ask for a page more.
     pub has_buffer: bool,
-    /// Whether many are made in a row where there is one page or none: a second call finds what the first found, or its own page.
+    /// Whether many are made in a row where there is one page or none: each finds what the first found, or its own page.
     pub repeats: bool,
     /// The numbers of pages in 8 tables with 64 frames, and in 512 with 4,096; 0 where it has none.
     pub in_few: &'static [u64],

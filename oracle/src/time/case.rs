@@ -77,8 +77,8 @@ impl Case {
         }
     }
 
-    /// Whether all sides do what they are to: the same answer, where the other has it, and the same words, bytes and buffer.
-    /// The C library is not held to the words.
+    /// Whether all sides do what they are to: the same answer, where the other has it, and the same words, bytes and
+    /// buffer. The C library is not held to the words.
     pub fn compare(&self) -> Result<(), &'static str> {
         let numbers = (self.call.numbers)(self.pages, self.in_a_row() - 1);
         let mut held = self.store();

@@ -1,4 +1,4 @@
-//! Times the sides of a case, which take turns in short visits. The visits that were disturbed least count.
+//! Times the sides of a case, which take turns in short visits. The turns that were disturbed least count.
 
 use super::case::{Case, Side};
 use super::held::Held;
@@ -12,10 +12,10 @@ use std::time::{Duration, Instant};
 const VISIT: Duration = Duration::from_millis(50);
 /// Rounds of turns in one visit, at least.
 const ROUNDS: usize = 4;
-/// Of this many visits one counts.
-const ONE_OF: usize = 4;
-/// By how much a ratio may differ between the visits that count and yet be told, where it is 1 or less; else so many times
-/// as much.
+/// Of this many turns one counts, and of as many times four one is too short to be believed.
+const ONE_OF: usize = 8;
+/// By how much a ratio may differ between every other visit and the rest and yet be told, where it is 1 or less; else by
+/// this part of it.
 const NOISE: f64 = 0.2;
 
 /// The nanoseconds that each turn of each side took, by side.
@@ -52,33 +52,27 @@ impl Visit {
         }
         Visit(taken)
     }
-
-    /// The time of each side but the clock's, less that of the clock.
-    fn times(&self) -> Vec<f64> {
-        let times: Vec<f64> = self.0.iter().map(|turns| least(turns)).collect();
-        times[1..].iter().map(|time| time - times[0]).collect()
-    }
 }
 
 impl Times {
-    /// Those of the visits that were disturbed least.
-    pub fn of(mut visits: Vec<Visit>) -> Self {
-        let length = |visit: &Visit| visit.times().iter().sum::<f64>();
-        visits.sort_by(|one, other| length(one).total_cmp(&length(other)));
-        visits.truncate(visits.len().div_ceil(ONE_OF));
-        let each: Vec<Vec<f64>> = visits.iter().map(Visit::times).collect();
-        let of = |side: usize| middle(each.iter().map(|times| times[side]).collect());
-        let against = |side| Against { time: of(side), is_told: is_told(&each, side) };
-        Times { check: of(0), ours: of(1), unchecked: of(2), others: (3..each[0].len()).map(against).collect() }
+    /// Those of all visits to a case.
+    pub fn of(visits: &[Visit]) -> Self {
+        let all = times(visits.iter());
+        let halves = [times(visits.iter().step_by(2)), times(visits.iter().skip(1).step_by(2))];
+        let is_told = |side: usize| {
+            let [one, other] = halves.each_ref().map(|half| half[2] / half[side]);
+            (one - other).abs() <= NOISE * one.max(1.0)
+        };
+        let others = (3..all.len()).map(|side| Against { time: all[side], is_told: is_told(side) }).collect();
+        Times { check: all[0], ours: all[1], unchecked: all[2], others }
     }
 }
 
-/// Whether the middle half of the ratios to a side lies close together.
-fn is_told(each: &[Vec<f64>], side: usize) -> bool {
-    let mut ratios: Vec<f64> = each.iter().map(|times| times[2] / times[side]).collect();
-    ratios.sort_by(f64::total_cmp);
-    let (low, high) = (ratios[ratios.len() / 4], ratios[ratios.len() * 3 / 4]);
-    low > 0.0 && high - low <= NOISE * high.max(1.0)
+/// The time of each side but the clock's in some visits, less that of the clock.
+fn times<'a>(visits: impl Iterator<Item = &'a Visit> + Clone) -> Vec<f64> {
+    let sides = visits.clone().next().map_or(0, |visit| visit.0.len());
+    let of = |side: usize| least(visits.clone().flat_map(|visit| visit.0[side].iter().copied()).collect());
+    (1..sides).map(|side| of(side) - of(0)).collect()
 }
 
 /// The nanoseconds of one call. Before it the store is what it was, and the check has read it, so that each side finds it
@@ -99,12 +93,12 @@ fn turn(case: &Case, side: Side, held: &mut Held) -> f64 {
     begun.elapsed().as_nanos() as f64 / case.in_a_row() as f64
 }
 
-/// Waits until all that is under way is done.
+/// Waits until all that is under way is done, and then until what was written has arrived.
 fn settle() {
     // SAFETY: no register and no memory is changed.
     #[cfg(target_arch = "x86_64")]
     unsafe {
-        asm!("lfence")
+        asm!("lfence", "mfence", "lfence")
     };
     // SAFETY: as above.
     #[cfg(target_arch = "aarch64")]
@@ -113,19 +107,9 @@ fn settle() {
     };
 }
 
-/// The mean of the turns that were disturbed least: the lower quarter, without its own lowest quarter.
-fn least(turns: &[f64]) -> f64 {
-    let mut turns = turns.to_vec();
+/// The mean of the turns that were disturbed least.
+fn least(mut turns: Vec<f64>) -> f64 {
     turns.sort_by(f64::total_cmp);
-    mean(&turns[turns.len() / 16..turns.len().div_ceil(4)])
-}
-
-/// The mean of the middle half.
-fn middle(mut times: Vec<f64>) -> f64 {
-    times.sort_by(f64::total_cmp);
-    mean(&times[times.len() / 4..times.len() - times.len() / 4])
-}
-
-fn mean(times: &[f64]) -> f64 {
-    times.iter().sum::<f64>() / times.len() as f64
+    let counted = &turns[turns.len() / (4 * ONE_OF)..turns.len().div_ceil(ONE_OF)];
+    counted.iter().sum::<f64>() / counted.len() as f64
 }

@@ -22,13 +22,20 @@ unsafe extern "C" {
 /// A call of an archive. A store's slices may always be lent to it.
 pub type Lent = unsafe fn(Slices, Numbers) -> Reply;
 
-/// A store and a buffer, and what it goes back to: the words that are not zero, by number, and the marks. There is one at a
-/// time, since all of them have the same words.
+/// A store and a buffer, and what it goes back to. There is one at a time, since all of them have the same words.
 pub struct Held {
     pub table_marks: Vec<u32>,
     pub frame_marks: Vec<u32>,
     pub buffer: Vec<u8>,
-    saved: Option<(Vec<(usize, u64)>, Vec<u32>, Vec<u32>)>,
+    saved: Saved,
+}
+
+/// Words that are not zero, by number, and marks.
+#[derive(Default)]
+struct Saved {
+    words: Vec<(usize, u64)>,
+    table_marks: Vec<u32>,
+    frame_marks: Vec<u32>,
 }
 
 /// Makes the window ready, with its words in a large page where there is one. To be called once, before all else here.
@@ -42,7 +49,7 @@ impl Held {
     /// A store of this many tables and frames, with one root, table 0, and nothing else, and a buffer of this length.
     pub fn new(tables: usize, frames: usize, buffer: usize) -> Self {
         let (table_marks, frame_marks) = (vec![0; tables], vec![0; frames]);
-        let mut held = Held { table_marks, frame_marks, buffer: vec![0; buffer], saved: None };
+        let mut held = Held { table_marks, frame_marks, buffer: vec![0; buffer], saved: Saved::default() };
         held.words_mut().fill(0);
         held.table_marks[0] = ROOT;
         held
@@ -60,18 +67,18 @@ impl Held {
     /// Has it go back to the words and marks that it has now.
     pub fn save(&mut self) {
         let words = self.words().iter().copied().enumerate().filter(|&(_, word)| word != 0).collect();
-        self.saved = Some((words, self.table_marks.clone(), self.frame_marks.clone()));
+        self.saved = Saved { words, table_marks: self.table_marks.clone(), frame_marks: self.frame_marks.clone() };
     }
 
     /// Goes back to the words and marks that were saved, and has the Rust know which of its pages are free.
     pub fn restore(&mut self) {
-        let saved = self.saved.take().expect("the store is saved");
+        let saved = std::mem::take(&mut self.saved);
         let words = self.words_mut();
         words.fill(0);
-        saved.0.iter().for_each(|&(number, word)| words[number] = word);
-        self.table_marks.copy_from_slice(&saved.1);
-        self.frame_marks.copy_from_slice(&saved.2);
-        self.saved = Some(saved);
+        saved.words.iter().for_each(|&(number, word)| words[number] = word);
+        self.table_marks.copy_from_slice(&saved.table_marks);
+        self.frame_marks.copy_from_slice(&saved.frame_marks);
+        self.saved = saved;
         boxed::set_free(&self.table_marks, &self.frame_marks);
     }
 
