@@ -2,8 +2,8 @@
 # check and without it; then for each other side its name, its nanoseconds and 1 where the ratio without the check is told.
 BEGIN {
     FS = "\t"
-    print "| call | T | n | with check, µs | check, µs | less check, µs | against | its µs | less check / its | with check / its |"
-    print "|---|---|---|---|---|---|---|---|---|---|"
+    print "| call | T | n | with check, µs | check, µs | less check, µs | each, ns | against | its µs | less check / its | with check / its |"
+    print "|---|---|---|---|---|---|---|---|---|---|---|"
 }
 
 # A number with a comma before each three digits.
@@ -17,6 +17,12 @@ function micro(time) {
     if (time == "-") return "–"
     if (time < 2) return "< 0.002"
     return sprintf(time < 9999.5 ? "%.3f" : "%.1f", time / 1000)
+}
+
+# Nanoseconds without the check for each of n; where there is no check before the call, for each of T.
+function each(tables, n, with, check, less) {
+    if (n > 0) return sprintf("%.2f", less / n)
+    return check == "-" ? sprintf("%.1f", with / tables) : "–"
 }
 
 # A ratio, where it is told; never to what the clock does not tell.
@@ -40,6 +46,6 @@ function joined(cell, part) {
     }
     if (names == "") names = times = less = with = "–"
     if ($6 == "-") less = "–"
-    printf "| %s | %s | %s | %s | %s | %s | %s | %s | %s | %s |\n", $1, $2, $3 ? grouped($3) : "–", micro($4), micro($5),
-        micro($6), names, times, less, with
+    printf "| %s | %s | %s | %s | %s | %s | %s | %s | %s | %s | %s |\n", $1, $2, $3 ? grouped($3) : "–", micro($4),
+        micro($5), micro($6), each($2, $3, $4, $5, $6), names, times, less, with
 }
