@@ -40,10 +40,10 @@ fn main() -> ExitCode {
     ExitCode::SUCCESS
 }
 
-/// Prints the line of a case. The calls of crate store, below the check, have none.
+/// Prints the line of a case.
 fn print(case: &Case, times: &Times) {
     let Times { check, ours, unchecked, others } = times;
-    let check = if case.call.part == "store" { "-".to_string() } else { format!("{check:.2}") };
+    let check = if case.call.has_check() { format!("{check:.2}") } else { "-".to_string() };
     print!("{}\t{}\t{}\t{ours:.2}\t{check}\t{unchecked:.2}", case.call.name, case.tables, case.pages);
     for ((name, _), against) in case.others().iter().zip(others) {
         print!("\t{name}\t{:.2}\t{}", against.time, u8::from(against.is_told));

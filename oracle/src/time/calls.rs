@@ -33,6 +33,13 @@ pub struct Call {
     pub in_many: &'static [u64],
 }
 
+impl Call {
+    /// Whether it begins with the check: crate store lies below it.
+    pub fn has_check(&self) -> bool {
+        self.part != "store"
+    }
+}
+
 /// A call of a crate that is timed against the Rust's of this name.
 macro_rules! call {
     ($part:ident, $name:ident) => {

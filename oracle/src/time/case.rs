@@ -77,9 +77,22 @@ impl Case {
         }
     }
 
+    /// Whether a store whose last table, a free one, is not all zero is refused by the call, and not without its check.
+    fn leaves_out_check(&self) -> bool {
+        let is_refused = |call| {
+            let mut held = self.store();
+            *held.words_mut().last_mut().expect("a table") = 1;
+            held.call(call, (self.call.numbers)(self.pages, 0)).number == 2
+        };
+        is_refused(self.call.ours) == self.call.has_check() && !is_refused(self.call.unchecked)
+    }
+
     /// Whether all sides do what they are to: the same answer, where the other has it, and the same words, bytes and
     /// buffer. The C library is not held to the words.
     pub fn compare(&self) -> Result<(), &'static str> {
+        if !self.leaves_out_check() {
+            return Err("the check is not left out, or there is none");
+        }
         let numbers = (self.call.numbers)(self.pages, self.in_a_row() - 1);
         let mut held = self.store();
         held.restore();
