@@ -33,6 +33,11 @@ pub fn free_tables() -> usize {
     FREE.with_borrow(|free| free.tables.len())
 }
 
+/// How many frames are free.
+pub fn free_frames() -> usize {
+    FREE.with_borrow(|free| free.frames.len())
+}
+
 /// The addresses of the pages with mark 0, downward; page 0 lies at `first`.
 fn unmarked(marks: &[u32], first: usize) -> Vec<usize> {
     let free = (0..marks.len()).rev().filter(|&page| marks[page] == 0);

@@ -2,6 +2,7 @@
 
 use crate::memory::PageTable;
 use std::ffi::{c_int, c_void};
+use std::ops::Range;
 use std::ptr::copy_nonoverlapping;
 use std::slice::from_raw_parts;
 
@@ -71,6 +72,22 @@ pub fn has(words: &[u64], bytes: &[u8]) -> bool {
         words == from_raw_parts(TABLES_AT as *const u64, words.len())
             && bytes == from_raw_parts(FRAMES_AT as *const u8, bytes.len())
     }
+}
+
+/// Writes some bytes of a store to the window.
+pub fn write_bytes(bytes: &[u8], some: Range<usize>) {
+    check_lengths(&[], bytes);
+    let part = &bytes[some.clone()];
+    // SAFETY: the window is open, and the lengths stay in it.
+    unsafe { copy_nonoverlapping(part.as_ptr(), (FRAMES_AT + some.start) as *mut u8, part.len()) };
+}
+
+/// Whether the window has some bytes of a store.
+pub fn has_bytes(bytes: &[u8], some: Range<usize>) -> bool {
+    check_lengths(&[], bytes);
+    let part = &bytes[some.clone()];
+    // SAFETY: the window is open, and the lengths stay in it; no slice of it outlives this function.
+    unsafe { part == from_raw_parts((FRAMES_AT + some.start) as *const u8, part.len()) }
 }
 
 /// A store's tables end before the frames begin, and its frames before the window ends.

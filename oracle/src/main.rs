@@ -1,5 +1,5 @@
 //! Compares every proved helper with the Rust's own function, on boundary values and on random ones.
-//! usage: oracle wrapping|checked COUNT
+//! usage: oracle wrapping|checked COUNT [FILE], to write the counts to a file too
 
 mod addresses;
 mod answer;
@@ -20,7 +20,7 @@ use std::process::ExitCode;
 fn main() -> ExitCode {
     let arguments: Vec<String> = std::env::args().skip(1).collect();
     let Some((build, count)) = wanted(&arguments) else {
-        eprintln!("usage: oracle wrapping|checked COUNT");
+        eprintln!("usage: oracle wrapping|checked COUNT [FILE]");
         return ExitCode::from(2);
     };
     panics::quiet_panics();
@@ -33,6 +33,9 @@ fn main() -> ExitCode {
         tallies.push(tally);
     }
     report::total(&tallies);
+    if let Some(file) = arguments.get(2) {
+        report::write(file, &tallies).expect("the counts can be written");
+    }
     if tallies.iter().all(|tally| tally.unlisted == 0) {
         ExitCode::SUCCESS
     } else {
@@ -42,7 +45,7 @@ fn main() -> ExitCode {
 
 /// The build and the number of random inputs that the arguments ask for.
 fn wanted(arguments: &[String]) -> Option<(Build, u64)> {
-    let [build, count] = arguments else { return None };
+    let ([build, count] | [build, count, _]) = arguments else { return None };
     let build = match build.as_str() {
         "wrapping" => Build::Wrapping,
         "checked" => Build::Checked,

@@ -4,6 +4,8 @@ use crate::answer::{Answer, Build};
 use crate::compare::{Helper, Tally};
 use crate::listed::Listed;
 use crate::random::SEED;
+use std::fs;
+use std::io::Result;
 
 /// The head of a build's table.
 pub fn heading(build: Build, boundaries: usize, count: u64) {
@@ -35,6 +37,20 @@ pub fn total(tallies: &[Tally]) {
     let unlisted = sum(|tally| tally.unlisted);
     println!("{:28} {boundary:>9} {random:>11} {:>11}  {listed}", "total", sum(|tally| tally.equal));
     println!("{} compared, {listed} listed differences, {unlisted} unlisted", boundary + random);
+}
+
+/// Writes what was counted as lines of fields with tabs between, of which oracle/counts.awk makes the tables of
+/// docs/DIFFERENCES.md.
+pub fn write(file: &str, tallies: &[Tally]) -> Result<()> {
+    let mut lines = String::new();
+    for Tally { name, boundary, random, equal, listed, unlisted } in tallies {
+        let number: u64 = listed.iter().map(|entry| entry.1).sum();
+        lines += &format!("helper\t{name}\t{}\t{equal}\t{number}\t{unlisted}\n", boundary + random);
+        for (difference, count) in listed {
+            lines += &format!("helper's difference\t{name}\t{difference}\t{count}\n");
+        }
+    }
+    fs::write(file, lines)
 }
 
 /// An unlisted difference: the helper, its input and both answers, and what the list says of it.

@@ -3,6 +3,8 @@
 
 use crate::answer::{Answer, Build};
 use crate::archive::{self, Numbers, Reply, Slices, NO_NUMBERS};
+use crate::call::directed::chosen::Chosen;
+use crate::call::directed::numbers;
 use crate::call::inputs::{self, Inputs};
 use crate::call::listed;
 use crate::call::{copies, map, original, release};
@@ -56,6 +58,8 @@ pub struct Call {
     pub writes: Writes,
     /// Numbers to make it with.
     pub any: fn(&Inputs, &mut Random) -> Numbers,
+    /// The numbers to make it with on a chosen store.
+    pub crossed: fn(&Chosen) -> Vec<Numbers>,
     /// Gives the tables of a well-formed store other marks before each call, so that it stays well formed.
     pub vary: Option<fn(&mut Store, &mut Random)>,
     /// Makes the kernel's buffer, where the call is lent one; its length is one of the numbers.
@@ -92,6 +96,7 @@ pub static CALLS: [Call; 17] = [
         on: On::Grown,
         writes: Writes::Nothing,
         any: inputs::root_and_address,
+        crossed: numbers::root_and_address,
         vary: None,
         buffer: None,
         ours: archive::pgt_translate,
@@ -112,6 +117,7 @@ pub static CALLS: [Call; 17] = [
         on: On::Grown,
         writes: Writes::Nothing,
         any: inputs::root,
+        crossed: numbers::root,
         vary: None,
         buffer: None,
         ours: archive::as_satp,
@@ -132,6 +138,7 @@ pub static CALLS: [Call; 17] = [
         on: On::Grown,
         writes: Writes::Tables,
         any: |_, _| NO_NUMBERS,
+        crossed: numbers::none,
         vary: Some(uvmcreate::vary),
         buffer: None,
         ours: archive::uvmcreate,
@@ -152,6 +159,7 @@ pub static CALLS: [Call; 17] = [
         on: On::Grown,
         writes: Writes::Tables,
         any: map::inputs::any,
+        crossed: numbers::map,
         vary: None,
         buffer: None,
         ours: archive::map,
@@ -172,6 +180,7 @@ pub static CALLS: [Call; 17] = [
         on: On::Grown,
         writes: Writes::Frames,
         any: uvm_unmap::inputs::any,
+        crossed: numbers::unmap,
         vary: None,
         buffer: None,
         ours: archive::uvm_unmap,
@@ -192,6 +201,7 @@ pub static CALLS: [Call; 17] = [
         on: On::Grown,
         writes: Writes::Tables,
         any: inputs::root_and_address,
+        crossed: numbers::root_and_address,
         vary: None,
         buffer: None,
         ours: archive::uvm_clear,
@@ -212,6 +222,7 @@ pub static CALLS: [Call; 17] = [
         on: On::Grown,
         writes: Writes::Frames,
         any: uvm_dealloc::inputs::any,
+        crossed: numbers::old_and_new,
         vary: None,
         buffer: None,
         ours: archive::uvm_dealloc,
@@ -232,6 +243,7 @@ pub static CALLS: [Call; 17] = [
         on: On::Grown,
         writes: Writes::Frames,
         any: uvm_init::any,
+        crossed: numbers::root_and_length,
         vary: None,
         buffer: Some(uvm_init::source),
         ours: archive::uvm_init,
@@ -252,6 +264,7 @@ pub static CALLS: [Call; 17] = [
         on: On::Grown,
         writes: Writes::Frames,
         any: uvm_alloc::inputs::any,
+        crossed: numbers::old_and_new,
         vary: None,
         buffer: None,
         ours: archive::uvm_alloc,
@@ -272,6 +285,7 @@ pub static CALLS: [Call; 17] = [
         on: On::Peopled,
         writes: Writes::Nothing,
         any: copies::inputs::any,
+        crossed: numbers::copy,
         vary: None,
         buffer: Some(copies::inputs::buffer),
         ours: archive::copy_in,
@@ -292,6 +306,7 @@ pub static CALLS: [Call; 17] = [
         on: On::Peopled,
         writes: Writes::Frames,
         any: copies::inputs::any,
+        crossed: numbers::copy,
         vary: None,
         buffer: Some(copies::inputs::buffer),
         ours: archive::copy_out,
@@ -312,6 +327,7 @@ pub static CALLS: [Call; 17] = [
         on: On::Peopled,
         writes: Writes::Nothing,
         any: copies::inputs::any,
+        crossed: numbers::copy,
         vary: None,
         buffer: Some(copies::inputs::buffer),
         ours: archive::copy_in_str,
@@ -332,6 +348,7 @@ pub static CALLS: [Call; 17] = [
         on: On::Peopled,
         writes: Writes::Frames,
         any: uvm_copy::inputs::any,
+        crossed: numbers::two_roots,
         vary: None,
         buffer: None,
         ours: archive::uvm_copy,
@@ -352,6 +369,7 @@ pub static CALLS: [Call; 17] = [
         on: On::Processes,
         writes: Writes::Tables,
         any: release::inputs::root,
+        crossed: numbers::root,
         vary: None,
         buffer: None,
         ours: archive::free,
@@ -372,6 +390,7 @@ pub static CALLS: [Call; 17] = [
         on: On::Processes,
         writes: Writes::Marks,
         any: release::inputs::of_any,
+        crossed: numbers::root_and_size,
         vary: None,
         buffer: None,
         ours: archive::uvm_free,
@@ -392,6 +411,7 @@ pub static CALLS: [Call; 17] = [
         on: On::Processes,
         writes: Writes::Marks,
         any: release::inputs::of_shared,
+        crossed: numbers::root_and_size,
         vary: None,
         buffer: None,
         ours: archive::free_shared_user_pagetable,
@@ -412,6 +432,7 @@ pub static CALLS: [Call; 17] = [
         on: On::Processes,
         writes: Writes::Marks,
         any: release::inputs::of_proc,
+        crossed: numbers::root_and_size,
         vary: None,
         buffer: None,
         ours: archive::proc_free_pagetable,

@@ -2,7 +2,8 @@
 
 use crate::answer::Answer;
 use crate::archive::Numbers;
-use crate::model::Store;
+use crate::model::{pool, Store};
+use std::ops::Range;
 
 /// Whether the Rust is there.
 pub const IS_THERE: bool = false;
@@ -13,9 +14,19 @@ pub fn hold_bytes(_: &Store) {}
 
 pub fn hold_words(_: &Store) {}
 
+pub fn hold_some(_: &Store, _: Range<usize>) {}
+
 pub fn set_free(_: &Store) {}
 
+pub fn free_frames(store: &Store) -> usize {
+    pool::free_frames(store)
+}
+
 pub fn holds(_: &Store) -> bool {
+    true
+}
+
+pub fn holds_some(_: &Store, _: Range<usize>) -> bool {
     true
 }
 

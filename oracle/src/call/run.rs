@@ -1,6 +1,7 @@
-//! What is counted over all stores.
+//! What is counted over the stores of one part: random, large or chosen ones.
 
 use crate::answer::Build;
+use crate::archive::Numbers;
 use crate::call::inputs::Inputs;
 use crate::call::judge::judge;
 use crate::call::list::{On, CALLS};
@@ -13,9 +14,6 @@ use crate::random::Random;
 
 /// How many differences are printed.
 const SHOWN: usize = 10;
-
-/// Each refusal and each listed difference must be met once in this many calls or more often.
-const CALLS_FOR_ONE: u64 = 1000;
 
 /// What is made of a store for which calls.
 const PREPARED: [(On, Change); 2] = [(On::Peopled, people), (On::Processes, make_processes)];
@@ -47,8 +45,7 @@ impl Run {
 
     /// Makes each call this often, times its own number, on a store, and keeps what is different with what is said of it.
     pub fn judge(&mut self, tried: &mut Tried, inputs: &Inputs, calls: u64, random: &mut Random, store: &str) {
-        self.stores += 1;
-        self.well_formed += u64::from(tried.well_formed);
+        self.count_store(tried.well_formed);
         self.make_calls(On::Grown, tried, inputs, calls, random, store);
         for (on, change) in PREPARED {
             let mut random = random.clone();
@@ -69,12 +66,28 @@ impl Run {
             for _ in 0..calls * call.times {
                 tried.vary(call, random);
                 let numbers = (call.any)(inputs, random);
-                tried.lend(call, numbers, random);
-                let told = judge(&mut self.tallies[place], tried, numbers, self.build);
-                self.show(told, store);
+                self.make_call(place, tried, numbers, random, store);
             }
             tried.restore();
         }
+        self.end_store(tried, store);
+    }
+
+    /// Counts a store on which calls are made.
+    pub fn count_store(&mut self, well_formed: bool) {
+        self.stores += 1;
+        self.well_formed += u64::from(well_formed);
+    }
+
+    /// Makes one call with these numbers.
+    pub fn make_call(&mut self, place: usize, tried: &mut Tried, numbers: Numbers, random: &mut Random, store: &str) {
+        tried.lend(&CALLS[place], numbers, random);
+        let told = judge(&mut self.tallies[place], tried, numbers, self.build);
+        self.show(told, store);
+    }
+
+    /// Looks for what was written where nothing may be, after all calls on a store.
+    pub fn end_store(&mut self, tried: &Tried, store: &str) {
         for side in tried.written() {
             self.written += 1;
             self.show(vec![format!("{side} wrote to the store")], store);
@@ -95,15 +108,15 @@ impl Run {
         self.written == 0 && self.tallies.iter().all(|tally| tally.unlisted + tally.wrong == 0)
     }
 
-    /// The refusals and listed differences that were met too seldom for this many calls.
-    pub fn missed(&self, count: u64) -> Vec<String> {
+    /// The refusals and listed differences that were met more seldom than this.
+    pub fn missed(&self, least: u64) -> Vec<String> {
         let mut missed = Vec::new();
         for tally in &self.tallies {
             let refusals = tally.call.refusals.iter().map(|number| format!("refused with {number}"));
             let differences = tally.differences.iter().map(|name| name.to_string());
             let listed = tally.listed.iter().filter(|_| original::IS_THERE);
             for (name, &met) in refusals.zip(&tally.refused).chain(differences.zip(listed)) {
-                if met < count / CALLS_FOR_ONE {
+                if met < least {
                     missed.push(format!("{}: {name}: {met}", tally.call.name));
                 }
             }

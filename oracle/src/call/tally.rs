@@ -3,9 +3,11 @@
 use crate::answer::{Answer, Build};
 use crate::archive::{Numbers, Reply};
 use crate::call::list::Call;
+use crate::call::original;
 use crate::check::proved::reply;
 use crate::listed::Listed;
 
+#[derive(Clone)]
 pub struct Tally {
     pub call: &'static Call,
     /// The names of what is listed for the call in this build.
@@ -33,6 +35,27 @@ impl Tally {
         }
         let (refused, listed) = (vec![0; call.refusals.len()], vec![0; differences.len()]);
         Tally { call, differences, calls: 0, answered: 0, refused, runs: 0, equal: 0, listed, unlisted: 0, wrong: 0 }
+    }
+
+    /// Adds what was counted for the same call in the same build.
+    pub fn add(&mut self, other: &Tally) {
+        self.calls += other.calls;
+        self.answered += other.answered;
+        self.runs += other.runs;
+        self.equal += other.equal;
+        self.unlisted += other.unlisted;
+        self.wrong += other.wrong;
+        let sums = self.refused.iter_mut().chain(&mut self.listed);
+        sums.zip(other.refused.iter().chain(&other.listed)).for_each(|(sum, count)| *sum += count);
+    }
+
+    /// How often the Rust was run.
+    pub fn compared(&self) -> u64 {
+        if original::IS_THERE {
+            self.runs
+        } else {
+            0
+        }
     }
 
     /// Counts a call and tells where ours is not what the model says; `kept` is whether the slices are as they must be.

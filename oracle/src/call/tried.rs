@@ -4,8 +4,10 @@ use crate::archive::{Numbers, Slices};
 use crate::call::buffer::Buffer;
 use crate::call::list::{Call, Writes};
 use crate::call::original;
+use crate::call::touched::{taken, touched};
 use crate::model::Store;
 use crate::random::Random;
+use std::ops::Range;
 
 /// A change of a well-formed store, after which it is well formed.
 pub type Change = fn(&mut Store, &mut Random);
@@ -20,6 +22,8 @@ pub struct Tried {
     pub well_formed: bool,
     /// The table marks that the store was taken with.
     marks: Vec<u32>,
+    /// The frame bytes that are looked at after the call that was made.
+    touched: Vec<Range<usize>>,
 }
 
 impl Tried {
@@ -27,7 +31,8 @@ impl Tried {
     pub fn new() -> Self {
         let nothing = || Store::zeros(0, 0);
         let (before, model, ours) = (nothing(), nothing(), nothing());
-        Tried { before, model, ours, buffer: Buffer::default(), well_formed: false, marks: Vec::new() }
+        let (buffer, marks, touched) = (Buffer::default(), Vec::new(), Vec::new());
+        Tried { before, model, ours, buffer, well_formed: false, marks, touched }
     }
 
     /// Takes a store three times over, and lends it to the Rust where it is well formed.
@@ -105,25 +110,39 @@ impl Tried {
     }
 
     /// Whether what a call may write to is as it must be: ours as the model has it, and after a refusal as it was.
-    pub fn is_right(&self, writes: Writes, answered: bool) -> bool {
-        let Tried { before, model, ours, buffer, .. } = self;
-        same(writes, ours, model) && (answered || same(writes, model, before)) && buffer.is_right(answered)
+    pub fn is_right(&mut self, call: &Call, numbers: Numbers, answered: bool) -> bool {
+        let Tried { before, model, ours, buffer, .. } = &*self;
+        let touched = match call.writes {
+            Writes::Frames => {
+                touched(before, [model, ours], numbers, if self.well_formed { buffer.ours.len() } else { 0 })
+            }
+            _ => Vec::new(),
+        };
+        let same = |one, other| same(call.writes, one, other, &touched);
+        let right = same(ours, model) && (answered || same(model, before)) && buffer.is_right(answered);
+        self.touched = touched;
+        right
     }
 
     /// Whether the Rust has left the words and bytes that ours has, as far as the call may write to them.
     pub fn is_rusts(&self, writes: Writes) -> bool {
-        let pages = match writes {
-            Writes::Nothing => true,
-            Writes::Tables | Writes::Marks => original::holds_words(&self.ours),
-            Writes::Frames => original::holds(&self.ours),
-        };
-        pages && self.buffer.is_rusts()
+        let pages = writes == Writes::Nothing || original::holds_words(&self.ours);
+        pages
+            && self.touched.iter().all(|bytes| original::holds_some(&self.ours, bytes.clone()))
+            && self.buffer.is_rusts()
+    }
+
+    /// Looks at the frame bytes that the Rust has taken, too.
+    pub fn touch_rusts(&mut self, writes: Writes) {
+        if writes == Writes::Frames {
+            self.touched.extend(taken(&self.before, original::free_frames(&self.before)));
+        }
     }
 
     /// Lends the Rust the store as it was, as far as the call may have written to it.
     pub fn hold_again(&self, writes: Writes) {
-        if writes == Writes::Frames {
-            original::hold_bytes(&self.before);
+        for bytes in &self.touched {
+            original::hold_some(&self.before, bytes.clone());
         }
         if writes != Writes::Nothing {
             original::hold_words(&self.before);
@@ -133,8 +152,8 @@ impl Tried {
     /// Puts back what the call may have written to.
     pub fn put_back(&mut self, writes: Writes) {
         for store in [&mut self.model, &mut self.ours] {
-            if writes == Writes::Frames {
-                store.bytes.copy_from_slice(&self.before.bytes);
+            for bytes in &self.touched {
+                store.bytes[bytes.clone()].copy_from_slice(&self.before.bytes[bytes.clone()]);
             }
             if matches!(writes, Writes::Marks | Writes::Frames) {
                 store.frame_marks.copy_from_slice(&self.before.frame_marks);
@@ -155,12 +174,15 @@ impl Tried {
     }
 }
 
-/// Whether two stores have the same in all that a call may write to.
-fn same(writes: Writes, one: &Store, other: &Store) -> bool {
+/// Whether two stores have the same in all that a call may write to, of the bytes in those that are looked at.
+fn same(writes: Writes, one: &Store, other: &Store, bytes: &[Range<usize>]) -> bool {
+    let tables = || one.words == other.words && one.table_marks == other.table_marks;
     match writes {
         Writes::Nothing => true,
-        Writes::Tables => one.words == other.words && one.table_marks == other.table_marks,
-        Writes::Marks => same(Writes::Tables, one, other) && one.frame_marks == other.frame_marks,
-        Writes::Frames => one == other,
+        Writes::Tables => tables(),
+        Writes::Marks | Writes::Frames => {
+            let same_bytes = |some: &Range<usize>| one.bytes[some.clone()] == other.bytes[some.clone()];
+            tables() && one.frame_marks == other.frame_marks && bytes.iter().all(same_bytes)
+        }
     }
 }

@@ -131,9 +131,14 @@ impl<'a> Batch<'a> {
     }
 }
 
-/// The store from which a batch grows: tables and marks of zeros, and frames of garbage.
+/// The store from which a batch grows.
 pub fn fresh(number: u64, random: &mut Random) -> Store {
     let (tables, frames) = sizes(number, random);
+    with_garbage(tables, frames, random)
+}
+
+/// A store whose tables and marks are zeros, and its frames garbage.
+pub fn with_garbage(tables: usize, frames: usize, random: &mut Random) -> Store {
     let mut store = Store::zeros(tables, frames);
     for bytes in store.bytes.chunks_exact_mut(8) {
         bytes.copy_from_slice(&random.uniform().to_le_bytes());

@@ -2,7 +2,21 @@
 
 use super::numbers::{PAGES, ROOT};
 use super::{well_formed, Store};
+use std::cell::Cell;
 use std::ops::Range;
+
+thread_local! {
+    /// Whether the store of the calls is well formed, where that was judged before.
+    static JUDGED: Cell<Option<bool>> = const { Cell::new(None) };
+}
+
+/// Makes calls on a store of which W1 to W5 were judged before, so that they need not be judged again for each call.
+pub fn judged<R>(well_formed: bool, calls: impl FnOnce() -> R) -> R {
+    JUDGED.set(Some(well_formed));
+    let answer = calls();
+    JUDGED.set(None);
+    answer
+}
 
 /// Refuses with this number where its reason applies.
 pub fn refuse(number: u64, applies: bool) -> Result<(), u64> {
@@ -16,7 +30,7 @@ pub fn refuse(number: u64, applies: bool) -> Result<(), u64> {
 /// 1 for wrong sizes, 2 for a store that is not well formed.
 pub fn store(store: &Store) -> Result<(), u64> {
     refuse(1, !store.lengths().are_right())?;
-    refuse(2, !well_formed(store))
+    refuse(2, !JUDGED.get().unwrap_or_else(|| well_formed(store)))
 }
 
 /// 3 for a table that is not a root.
