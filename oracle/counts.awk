@@ -25,9 +25,20 @@ $1 == "helper" {
     next
 }
 
-$1 == "stores" { key = $1 SUBSEP $2; row = cells(3) }
-$1 == "call" { key = $1 SUBSEP $2; row = cells(3) }
-$1 ~ /difference$/ { key = $1 SUBSEP $2 SUBSEP $3; row = " " commas($4) " |" }
+$1 == "stores" {
+    key = $1 SUBSEP $2
+    row = cells(3)
+}
+$1 == "call" {
+    key = $1 SUBSEP $2
+    row = cells(3)
+    last = NF
+    for (i = 3; i <= NF; i++) calls[build, i] += $i
+}
+$1 ~ /difference$/ {
+    key = $1 SUBSEP $2 SUBSEP $3
+    row = cells(4)
+}
 
 {
     if (!(key in place)) {
@@ -51,17 +62,26 @@ function both(kind, i, part) {
     print ""
 }
 
+# The sums over all calls, in one row for each build where they differ.
+function sum_of_calls(key, i, builds, build) {
+    key = "call" SUBSEP "all"
+    split("wrapping checked", builds, " ")
+    for (build in builds)
+        for (i = 3; i <= last; i++) rows[builds[build], key] = rows[builds[build], key] " " commas(calls[builds[build], i]) " |"
+    keys[++number] = key
+}
+
 # The rows of differences, with a column for each build.
-function each(kind, i, part, last, name, wrapping, checked) {
-    last = ""
+function each(kind, i, part, before, name, wrapping, checked) {
+    before = ""
     for (i = 1; i <= number; i++) {
         split(keys[i], part, SUBSEP)
         if (part[1] != kind) continue
-        name = part[2] == last ? "" : " `" part[2] "`"
+        name = part[2] == before ? "" : " `" part[2] "`"
         wrapping = (("wrapping", keys[i]) in rows) ? rows["wrapping", keys[i]] : " |"
         checked = (("checked", keys[i]) in rows) ? rows["checked", keys[i]] : " |"
         print "|" name " | " part[3] " |" wrapping checked
-        last = part[2]
+        before = part[2]
     }
     print ""
 }
@@ -79,6 +99,7 @@ END {
     both("stores")
     print "| call | compared with the model | of these on the largest stores | directed | different | " \
         "compared with the Rust | equal | listed differences | unlisted |\n|---|---|---|---|---|---|---|---|---|"
+    sum_of_calls()
     both("call")
     print "| call | listed difference | wrapping | with overflow checks |\n|---|---|---|---|"
     each("difference")
