@@ -60,20 +60,20 @@ module _ (s : Store) (r p e : ℕ) (l : p ≤ e) where
           least = least 14 (λ y. absurd (omega arith)) (λ y. absurd (omega arith)) (λ y. absurd (omega arith));
         })
 
-    module _ (z : c ≡ 0) (f : ℕ) (frames : f ≡ freeFrames s) where
+    module _ (z : c ≡ 0) where
       none : (i : ℕ) → i < e - p → Mapped s r (p + i) → ⊥
       none i x m = none-has g 1 1 p e c l count z (p + i) (omega arith) (omega arith) (mapped-counted s r (p + i) m)
 
-      pub no-16 : f < e - p → Judges R F 16
+      pub no-16 : (e - p ≤ freeFrames s → ⊥) → Judges R F 16
       no-16 h = judges-no R F 16 (omega arith) (record { applies = no-frames (omega arith); least = least 16 (λ _. none) (λ y. absurd (omega arith)) (λ y. absurd (omega arith)) })
 
-      module _ (h : e - p ≤ f) (t m : ℕ) (tables : t ≡ freeTables s) (lacking : m ≡ missingIn (s .words) r p (e - p)) where
+      module _ (h : e - p ≤ freeFrames s) (m : ℕ) (lacking : m ≡ missingIn (s .words) r p (e - p)) where
         lacks : m ≡ missing s r p (e - p)
         unfolding missing
         lacks = lacking
 
-        pub no-17 : t < m → Judges R F 17
+        pub no-17 : (m ≤ freeTables s → ⊥) → Judges R F 17
         no-17 q = judges-no R F 17 (omega arith) (record { applies = no-tables (omega (arith, lacks)); least = least 17 (λ _. none) (λ _. omega arith) (λ y. absurd (omega arith)) })
 
-        pub all-ready : m ≤ t → Judges R F 0
+        pub all-ready : m ≤ freeTables s → Judges R F 0
         all-ready q = judges-ok R F 0 refl (record { unmapped = none; frames = omega arith; tables = omega (arith, lacks) })

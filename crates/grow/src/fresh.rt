@@ -26,10 +26,10 @@ pub fn judge_fresh(
     if walk::count_pages(words, root, first, end, 1, 1) != 0 {
         return 14;
     }
-    if store::count_free(fmarks) < end - first {
+    if !store::enough_free(fmarks, end - first) {
         return 16;
     }
-    if store::count_free(tmarks) < walk::missing_tables(words, root, first, end) {
+    if !store::enough_free(tmarks, walk::missing_tables(words, root, first, end)) {
         return 17;
     }
     0

@@ -1,7 +1,7 @@
 -- `uvmcreate`: its reasons in order, that it answers in one way, and what holds afterwards. Assumes nothing.
 use mathlib.Core.Path.{_≡_, refl, sym, ap, _∙_, subst}
 use mathlib.Core.Logic.{inl, inr}
-use Prim.Native.Nat.{ℕ, suc, _+_, _*_, _/_, _%_, _^_, _<_}
+use Prim.Native.Nat.{ℕ, suc, _+_, _*_, _/_, _%_, _^_, _≤_, _<_}
 use native.Mathlib.Nat.{le-refl}
 use native.Mathlib.Omega.{arith}
 use lib.ListN.{length, length-set}
@@ -38,11 +38,11 @@ module _ (s : Store) where
       judged-no s R (λ h. record { applies = sizes h; least = least 1 (λ l. absurd (omega arith)) (λ l. absurd (omega arith)) (λ l. absurd (omega arith)) })
       (λ z h. record { applies = unformed h; least = least 2 (λ l. z) (λ l. absurd (omega arith)) (λ l. absurd (omega arith)) })
 
-  pub no-17 : Sized s → WellFormed s → freeTables s ≡ 0 → Smallest R 17
-  no-17 z w h = record { applies = no-table h; least = least 17 (λ l. z) (λ l. w) (λ l. absurd (omega arith)) }
+  pub no-17 : Sized s → WellFormed s → (1 ≤ freeTables s → ⊥) → Smallest R 17
+  no-17 z w h = record { applies = no-table (omega arith); least = least 17 (λ l. z) (λ l. w) (λ l. absurd (omega arith)) }
 
-  pub clear : Sized s → WellFormed s → (freeTables s ≡ 0 → ⊥) → NoReason R
-  clear z w f k = least (suc k) (λ l. z) (λ l. w) (λ l. f) k (le-refl (suc k))
+  pub clear : Sized s → WellFormed s → 1 ≤ freeTables s → NoReason R
+  clear z w f k = least (suc k) (λ l. z) (λ l. w) (λ l e. omega arith) k (le-refl (suc k))
 
   -- two answers are the same, and so are the stores
   pub one-create : (a a′ : Answer) (t t′ : Store) → Create s a t → Create s a′ t′ → (a ≡ a′) × (t ≡ t′)

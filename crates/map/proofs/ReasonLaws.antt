@@ -6,7 +6,7 @@ use native.Mathlib.Nat.{le-refl}
 use native.Mathlib.Omega.{arith}
 use Rattle.rounding.specs.Range.{firstPage, endPage}
 use Rattle.store.specs.Store.{Store}
-use Rattle.store.specs.Count.{free, freeTables}
+use Rattle.store.specs.Count.{freeTables}
 use Rattle.store.specs.Outcome.{NoReason, Judges}
 use Rattle.store.proofs.Outcomes.{judges-no, judges-ok}
 use Rattle.well_formed.specs.Root.{RootReason, RootReady}
@@ -102,15 +102,15 @@ module _ (s : Store) (root va pa size perm : ℕ) where
           free-range n p f t m =
               none-has (entryIn (s .words) root 2) 1 1 first end c (omega arith) count n p (omega arith) (omega arith) (mapped-counted s root p m)
 
-          module _ (n : c ≡ 0) (f m : ℕ) (eq : f ≡ free (s .tmarks)) (em : m ≡ missingIn (s .words) root first (end - first)) where
-            pub no-17 : f < m → Judges R F 17
+          module _ (n : c ≡ 0) (m : ℕ) (em : m ≡ missingIn (s .words) root first (end - first)) where
+            pub no-17 : (m ≤ freeTables s → ⊥) → Judges R F 17
             no-17 l =
                 judges-no R F 17 (omega arith) (record {
                   applies = too-few (omega (arith, lacks m em));
                   least = least 17 (λ k l. fine 17 k l) (λ l. free-range n) (λ l. absurd (omega arith));
                 })
 
-            pub all-ready : m ≤ f → Judges R F 0
+            pub all-ready : m ≤ freeTables s → Judges R F 0
             all-ready l =
                 judges-ok R F 0 refl (record { at-root = r; numbers = o; unmapped = free-range n; enough = omega (arith, lacks m em) })
 

@@ -14,7 +14,7 @@ pub fn uvmcreate(words: &[u64], tmarks: &mut [u32], bytes: &[u8], fmarks: &[u32]
     if no != 0 {
         return Answer::Refused(no);
     }
-    if store::count_free(tmarks) == 0 {
+    if !store::enough_free(tmarks, 1) {
         return Answer::Refused(17);
     }
     let t = store::lowest_free(tmarks);

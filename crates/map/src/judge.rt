@@ -86,7 +86,7 @@ pub fn judge_map(
     if walk::count_pages(words, r, first, end, 1, 1) != 0 {
         return 14;
     }
-    if store::count_free(tmarks) < walk::missing_tables(words, r, first, end) {
+    if !store::enough_free(tmarks, walk::missing_tables(words, r, first, end)) {
         return 17;
     }
     0

@@ -1,10 +1,12 @@
 -- Freeing a table and those below it, a turn of the loop at a time. Assumes nothing.
 use mathlib.Core.Path.{_≡_, refl, sym, subst, ap, _∙_}
 use mathlib.Core.List.{List, _++_}
+use mathlib.Core.Logic.{by-cases}
 use mathlib.Core.Bool.{Bool, true, false, cond}
 use Prim.Native.Nat.{ℕ, zero, suc, _+_, _-_, _*_, _≤_, _<_}
-use native.Mathlib.Nat.{suc-mul, le-trans, le-add-right}
+use native.Mathlib.Nat.{add-zero, suc-mul, le-trans, le-add-right}
 use native.Mathlib.Numerals.{add-one, sub-one}
+use native.Mathlib.Decide.{decLe}
 use native.Mathlib.Omega.{arith}
 use borrow.Author.Tests.{lt-ltb, le-ltb}
 use borrow.Rule.Slice.PartMut.{putMid}
@@ -12,7 +14,10 @@ use lib.Dec.{ltb}
 use lib.ListN.{length, take, drop, set, replicate, length-drop}
 use lib.Seq.{length-take-le}
 use Rattle.store.specs.Store.{word, frameNo}
-use Rattle.store.specs.Walk.{tableOf}
+use Rattle.store.specs.Walk.{tableOf, slotWord}
+use Rattle.store.proofs.Tree.{word-slot}
+use Rattle.walk.specs.Runs.{Run}
+use Rattle.walk.proofs.RangeLaws.{run-one}
 use Rattle.release.specs.FreeTree.{Trees, trees, zeroed, wipe, add, child, children, freeTree}
 
 -- the 512 words from a on, filled with 0 and put back
@@ -109,3 +114,34 @@ module _ (f : ℕ → List ℕ → List ℕ → Trees) (t : ℕ) (ws₀ ms₀ : 
     pub turn-one : c < length ms → (k : ℕ) (ws′ ms′ : List ℕ) → trees ws′ ms′ k ≡ f c ws ms → trees ws′ ms′ (n + k) ≡ children f t ws₀ ms₀ (e + 1)
     turn-one g k ws′ ms′ r =
         turn (names-one f x (trees ws ms n) (omega arith) (omega (arith, is)) ∙ ap (add (trees ws ms n)) (ap (λ (j : ℕ). f j ws ms) is ∙ sym r))
+
+-- ---- slots that a scan takes as one
+
+module _ (ws : List ℕ) (w r : ℕ) (c : Run ws (w + 2) r) where
+  -- a word that names a table is taken alone
+  pub alone : 0x10_0000 ≤ frameNo (word ws w) → r ≡ 1
+  alone h = run-one ws (w + 2) r c (omega (arith, word-slot ws w))
+
+  -- several are 0
+  zero-words : 1 < r → (i : ℕ) → i < r → word ws (w + i) ≡ 0
+  zero-words h i l = let e : w + i + 2 ≡ w + 2 + i = omega arith in sym (word-slot ws (w + i)) ∙ ap (slotWord ws) e ∙ c .empty h (w + 2 + i) (omega arith) (omega arith)
+
+  -- no slot past the table
+  pub within-table : (t e : ℕ) → w ≡ 512 * t + e → e < 512 → e + r ≤ 512
+  within-table t e q h = omega (arith, c .within)
+
+module _ (f : ℕ → List ℕ → List ℕ → Trees) (t : ℕ) (ws₀ ms₀ : List ℕ) (e : ℕ) (ws ms : List ℕ) (n : ℕ) (inv : trees ws ms n ≡ children f t ws₀ ms₀ e) where
+  turn-zeros : (r : ℕ) → ((i : ℕ) → i < r → word ws (512 * t + e + i) ≡ 0) → trees ws ms n ≡ children f t ws₀ ms₀ (e + r)
+  turn-zeros zero z = inv ∙ ap (children f t ws₀ ms₀) (sym (add-zero e))
+  turn-zeros (suc r) z =
+      let x : 512 * t + e + r ≡ 512 * t + (e + r) = omega arith in
+      let o : word ws (512 * t + (e + r)) ≡ 0 = ap (word ws) (sym x) ∙ z r (omega arith) in
+      let s : e + r + 1 ≡ e + suc r = omega arith in
+      turn-none f t ws₀ ms₀ (e + r) ws ms n (turn-zeros r (λ i l. z i (omega arith))) (frameNo (word ws (512 * t + (e + r)))) refl (omega arith) ∙ ap (children f t ws₀ ms₀) s
+
+  -- a turn over slots that name no table
+  pub turn-run : frameNo (word ws (512 * t + e)) < 0x10_0000 → (r : ℕ) → Run ws (512 * t + e + 2) r → trees ws ms n ≡ children f t ws₀ ms₀ (e + r)
+  turn-run h r c =
+      by-cases (decLe r 1)
+      (λ q. let s : e + 1 ≡ e + r = omega (arith, c .some) in turn-none f t ws₀ ms₀ e ws ms n inv (frameNo (word ws (512 * t + e))) refl h ∙ ap (children f t ws₀ ms₀) s)
+      (λ q. turn-zeros r (zero-words ws (512 * t + e) r c (omega arith)))

@@ -48,8 +48,10 @@ pub fn free_table(words: &mut [u64], tmarks: &mut [u32], t: usize, level: usize)
     let mut n = 0;
     let mut e = 0;
     while e < 512 {
-        let frame = (words[512 * t + e] / 1024) as usize;
-        e += 1;
+        let w = 512 * t + e;
+        let run = walk::run_of(words, w + 2);
+        let frame = (words[w] / 1024) as usize;
+        e += run;
         if frame >= 0x10_0000 {
             let child = frame - 0x10_0000;
             if child < tmarks.len() {

@@ -38,10 +38,6 @@ zeros-next g zero c = ap (λ (x : ℕ). isZero (g x) + 0) (sym (add-zero c)) ∙
 zeros-next g (suc n) c =
     ap (λ (x : ℕ). isZero (g c) + x) (zeros-next g n (suc c)) ∙ omega (arith, ap (λ (x : ℕ). isZero (g x)) (suc-add c n ∙ sym (add-suc c n)))
 
--- a mark more, which is free or is not
-pub zeros-more : (g : ℕ → ℕ) (n i m : ℕ) → n ≡ zeros g i 0 → m ≡ isZero (g i) → n + m ≡ zeros g (i + 1) 0
-zeros-more g n i m e f = rw add-one (omega (arith, zeros-next g i 0, ap (λ (x : ℕ). isZero (g x)) (zero-add i)))
-
 pub zeros-le : (g : ℕ → ℕ) (n c : ℕ) → zeros g n c ≤ n
 unfolding zeros
 zeros-le g zero c = omega arith

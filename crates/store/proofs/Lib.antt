@@ -4,6 +4,7 @@ pub mod Scans
 pub mod Sums
 pub mod Levels
 pub mod Free
+pub mod Parts
 pub mod Taken
 pub mod Tally
 pub mod Reached

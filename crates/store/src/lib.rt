@@ -1,12 +1,14 @@
 // The store that every call works on: four lent slices in place of the kernel's boxes and raw pages.
 // Its sizes, marks and levels, the lowest free table or frame, how many are free, and set-up.
+mod count;
 mod fill;
 mod marks;
 
+pub use count::count_free;
+pub use count::enough_free;
 pub use fill::copy_bytes;
 pub use fill::zero_bytes;
 pub use fill::zero_words;
-pub use marks::count_free;
 pub use marks::level_of;
 pub use marks::lowest_free;
 pub use marks::lowest_from;

@@ -1,9 +1,9 @@
-// Words and marks by number, levels, and the free marks.
+// Words and marks by number, levels, and the lowest free mark.
 ghost use mathlib.Core.Path.{_≡_};
 ghost use Prim.Native.Nat.{_<_, _≤_, _^_};
 ghost use Rattle.store.specs.Store.{word, mark};
 ghost use Rattle.store.specs.Level.{level};
-ghost use Rattle.store.specs.Count.{lowest, free};
+ghost use Rattle.store.specs.Count.{lowest};
 
 fn wide(x: u32) -> usize
     ensures { λ r. ⌜ r ≡ x ⌝ }
@@ -70,20 +70,4 @@ pub fn lowest_free(marks: &[u32]) -> usize
     ensures { λ r. ⌜ r ≡ lowest (now (marks .entry)) ⌝ }
 {
     lowest_from(marks, 0)
-}
-
-// How many tables or frames are free.
-pub fn count_free(marks: &[u32]) -> usize
-    ensures { λ r. ⌜ r ≡ free (now (marks .entry)) ⌝ }
-{
-    let mut n: usize = 0;
-    let mut i = 0;
-    while i < marks.len() {
-        let m = marks[i];
-        i += 1;
-        if m == 0 {
-            n += 1;
-        }
-    }
-    n
 }

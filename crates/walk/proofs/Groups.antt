@@ -8,7 +8,8 @@ use Rattle.store.specs.Walk.{slotWord, slotIn, slot}
 use Rattle.store.proofs.Free.{isZero-pos}
 use Rattle.walk.specs.Missing.{span, entryIn, missingIn, entryUnder}
 use Rattle.store.proofs.Free.{zeros-le}
-use Rattle.walk.proofs.Spans.{zeros-same, zeros-all, part-none, part-next, part-join}
+use Rattle.store.proofs.Parts.{part-none, part-next, part-join}
+use Rattle.walk.proofs.Spans.{zeros-same, zeros-all}
 
 -- there is no slot 0 and no slot 1
 pub slot-none : (ws : List ℕ) (m : ℕ) → m < 2 → slotWord ws m ≡ 0

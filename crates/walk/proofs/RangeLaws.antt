@@ -1,8 +1,8 @@
 -- Counting the pages of a range by bits of their words, part by part. Assumes nothing.
-use mathlib.Core.Path.{_≡_, sym, ap, _∙_}
+use mathlib.Core.Path.{_≡_, sym, ap, subst, _∙_}
 use mathlib.Core.Logic.{by-cases}
 use mathlib.Core.List.{List}
-use Prim.Native.Nat.{ℕ, _+_, _-_, _*_, _/_, _%_, _≤_, _<_}
+use Prim.Native.Nat.{ℕ, _+_, _-_, _*_, _/_, _%_, _^_, _≤_, _<_}
 use native.Mathlib.Decide.{decLe}
 use native.Mathlib.Omega.{arith}
 use lib.Bits.{bitAnd}
@@ -12,9 +12,10 @@ use Rattle.store.specs.Sum.{same}
 use Rattle.store.specs.Walk.{slotWord, slotIn, slot}
 use Rattle.store.proofs.Sums.{same-no, sum-split, sum-cong}
 use Rattle.store.proofs.Tree.{word-slot}
-use Rattle.well_formed.specs.Scan.{Over}
+use Rattle.well_formed.specs.Scan.{Over, Zeros}
 use Rattle.well_formed.proofs.Parts.{over-join, over-same, over-zero}
 use Rattle.walk.specs.Missing.{entryIn, entryUnder}
+use Rattle.walk.specs.Runs.{Run}
 use Rattle.walk.specs.Ranges.{alike, pageUnder}
 use Rattle.walk.proofs.Groups.{slot-none, under-none}
 
@@ -90,17 +91,56 @@ pub over-next : (g h : ℕ → ℕ) (mask v a p n c d : ℕ) → a ≤ p → p �
 over-next g h mask v a p n c d l m agree x y =
     over-join (alike mask v h) a p n c d l m x (over-same (alike mask v g) (alike mask v h) p n d m (λ k q r. ap (λ (z : ℕ). same (bitAnd z mask) v) (agree k q r)) y)
 
--- those of the block of page p
-pub page-in-block : (ws : List ℕ) (top e p n : ℕ) → e ≡ entryUnder ws top (p / 512) → n ≤ 512 * (p / 512) + 512
-    → (k : ℕ) → p ≤ k → k < n → entryUnder ws e k ≡ pageUnder ws top k
-page-in-block ws top e p n read h k l m =
-    let x : p / 512 ≡ k / 512 = omega arith in
-    ap (λ (i : ℕ). entryUnder ws i k) (read ∙ ap (entryUnder ws top) x)
+-- ---- slots that a scan takes as one hold the same word
 
--- those of the group of page p
-pub page-in-group : (ws : List ℕ) (r top p n : ℕ) → top ≡ slotWord ws (512 * r + p / 512 / 512 + 2) → n ≤ 262144 * (p / 262144) + 262144
-    → (k : ℕ) → p ≤ k → k < n → pageUnder ws top k ≡ entryIn ws r 2 k
+-- 64 words that are 0
+pub empty-run : (ws : List ℕ) (m : ℕ) → 2 ≤ m → (m - 2) % 64 ≡ 0 → Zeros ws (m - 2) (m - 2 + 64) → Run ws m 64
+empty-run ws m h e z = record {
+  some = omega arith;
+  within = omega arith;
+  there = λ _. h;
+  empty = λ _ j l q. let x : j ≡ j - 2 + 2 = omega arith in ap (slotWord ws) x ∙ word-slot ws (j - 2) ∙ z (j - 2) (omega arith) (omega arith);
+}
+
+pub run-same : (ws : List ℕ) (m r j : ℕ) → Run ws m r → m ≤ j → j < m + r → slotWord ws m ≡ slotWord ws j
+run-same ws m r j c l h =
+    by-cases (decLe r 1) (λ q. ap (slotWord ws) (omega arith))
+    (λ q. let n : 1 < r = omega arith in c .empty n m (omega arith) (omega arith) ∙ sym (c .empty n j l h))
+
+pub run-one : (ws : List ℕ) (m r : ℕ) → Run ws m r → 0 < slotWord ws m → r ≡ 1
+run-one ws m r c h = by-cases (decLe r 1) (λ q. omega (arith, c .some)) (λ q. absurd (omega (arith, c .empty (omega arith) m (omega arith) (omega arith))))
+
+-- where a scan goes on behind r blocks from page p on, or at the end
+pub next-block : (p end r n : ℕ) → p < end → 1 ≤ r → n ≡ 512 * (p / 512 + r) - (512 * (p / 512 + r) - end) → (p ≤ n) × (n ≤ end) × (n ≤ 512 * (p / 512 + r))
+next-block p end r n h l e = (omega arith, omega arith, omega arith)
+
+-- what is counted up to there fits
+pub few-pages : (first p n end c d : ℕ) → first ≤ p → p ≤ n → n ≤ end → end ≤ 2 ^ 26 → c ≤ p - first → d ≤ n - p → c + d < 2 ^ 64
+few-pages first p n end c d a b e f g h = omega arith
+
+-- the slots of a run of the table that e names are those of its entries
+run-slot : (ws : List ℕ) (e i r d : ℕ) → i < 512 → Run ws (slotIn e i) r → d < r → slotIn e (i + d) ≡ slotIn e i + d
+run-slot ws e i r d l c h = by-cases (decLe r 1) (λ q. let z : d ≡ 0 = omega arith in rw z (omega arith)) (λ q. omega (arith, c .there (omega arith)))
+
+run-entry : (ws : List ℕ) (e i r : ℕ) → i < 512 → Run ws (slotIn e i) r → i + r ≤ 512
+run-entry ws e i r l c = by-cases (decLe r 1) (λ q. omega arith) (λ q. omega (arith, c .within, c .there (omega arith)))
+
+-- those of the blocks of page p that a scan takes as one
+pub page-in-block : (ws : List ℕ) (top e p n m r : ℕ) → m ≡ slotIn top (p / 512 % 512) → Run ws m r → e ≡ slotWord ws m → n ≤ 512 * (p / 512 + r)
+    → (k : ℕ) → p ≤ k → k < n → entryUnder ws e k ≡ pageUnder ws top k
+page-in-block ws top e p n m r em c read h k l q =
+    let i : ℕ = p / 512 % 512 in
+    let run : Run ws (slotIn top i) r = subst (λ (x : ℕ). Run ws x r) em c in
+    let d : ℕ = k / 512 - p / 512 in
+    let dr : d < r = omega arith in
+    let b : i + r ≤ 512 = run-entry ws top i r (omega arith) run in
+    let x : k / 512 % 512 ≡ i + d = omega arith in
+    let s : slotIn top (k / 512 % 512) ≡ m + d = ap (slotIn top) x ∙ run-slot ws top i r d (omega arith) run dr ∙ ap (λ (y : ℕ). y + d) (sym em) in
+    ap (λ (y : ℕ). entryUnder ws y k) (read ∙ run-same ws m r (m + d) c (omega arith) (omega arith) ∙ ap (slotWord ws) (sym s))
+
+-- those of the groups of page p that a scan takes as one
+pub page-in-group : (ws : List ℕ) (g top p n r : ℕ) → Run ws (512 * g + p / 512 / 512 + 2) r → top ≡ slotWord ws (512 * g + p / 512 / 512 + 2) → n ≤ 262144 * (p / 512 / 512 + r)
+    → (k : ℕ) → p ≤ k → k < n → pageUnder ws top k ≡ entryIn ws g 2 k
 unfolding slot
-page-in-group ws r top p n read h k l m =
-    let x : p / 512 / 512 ≡ k / 512 / 512 = omega arith in
-    ap (λ (i : ℕ). pageUnder ws i k) (read ∙ ap (λ (i : ℕ). slotWord ws (512 * r + i + 2)) x)
+page-in-group ws g top p n r c read h k l q =
+    ap (λ (i : ℕ). pageUnder ws i k) (read ∙ run-same ws (512 * g + p / 512 / 512 + 2) r (512 * g + k / 512 / 512 + 2) c (omega arith) (omega arith))

@@ -2,7 +2,7 @@
 use mathlib.Core.Path.{_≡_, refl, sym, ap, ap₂, _∙_}
 use Prim.Native.Nat.{ℕ, zero, suc, _+_, _-_, _≤_, _<_}
 use native.Mathlib.Omega.{arith}
-use native.Mathlib.Nat.{zero-add, add-zero, suc-add, add-suc}
+use native.Mathlib.Nat.{add-zero, suc-add, add-suc}
 use native.Mathlib.Decide.{ℕ-discrete, decLe}
 use Rattle.store.specs.Count.{isZero, zeros}
 use Rattle.store.proofs.Free.{isZero-pos, isZero-le, zeros-le}
@@ -39,12 +39,6 @@ zeros-upd g g′ i v (suc n) c u z p l h = go (ℕ-discrete c i) (zeros-upd g g�
         omega (arith, same, ap (λ (x : ℕ). isZero (g x)) e, ap isZero z, isZero-pos (g′ c) (λ x. omega (arith, u .same, ap g′ e)))
     go (no ne) ih = omega (arith, ap isZero (u .other c ne), ih (omega arith) (omega arith))
 
--- the first m, and the n after them
-pub zeros-split : (g : ℕ → ℕ) (m n c : ℕ) → zeros g (m + n) c ≡ zeros g m c + zeros g n (c + m)
-unfolding zeros
-zeros-split g zero n c = rw (zero-add n, add-zero c) (omega arith)
-zeros-split g (suc m) n c = rw suc-add (omega (arith, zeros-split g m n (suc c), ap (zeros g n) (suc-add c m ∙ sym (add-suc c m))))
-
 -- all are 0 exactly where as many are counted as there are
 pub zeros-all : (g : ℕ → ℕ) (n c : ℕ) → ((i : ℕ) → i < n → g (c + i) ≡ 0) → zeros g n c ≡ n
 unfolding zeros
@@ -62,30 +56,6 @@ all-zeros g zero c e i l = absurd (omega arith)
 all-zeros g (suc n) c e zero l = ap g (add-zero c) ∙ isZero-one (g c) (omega (arith, isZero-le (g c), zeros-le g n (suc c)))
 all-zeros g (suc n) c e (suc i) l =
     ap g (add-suc c i ∙ sym (suc-add c i)) ∙ all-zeros g n (suc c) (omega (arith, isZero-le (g c), zeros-le g n (suc c))) i (omega arith)
-
--- ---- parts, from a up to, not including, e
-
--- two parts joined
-pub part-join : (g : ℕ → ℕ) (a b e : ℕ) → a ≤ b → b ≤ e → zeros g (b - a) a + zeros g (e - b) b ≡ zeros g (e - a) a
-part-join g a b e l h =
-    let s : b - a + (e - b) ≡ e - a = omega arith in
-    let t : a + (b - a) ≡ b = omega arith in
-    omega (arith, zeros-split g (b - a) (e - b) a, ap (λ (n : ℕ). zeros g n a) s, ap (zeros g (e - b)) t)
-
-pub part-none : (g : ℕ → ℕ) (a : ℕ) → zeros g (a - a) a ≡ 0
-unfolding zeros
-part-none g a = let e : a - a ≡ 0 = omega arith in rw e
-
--- one number more: a 0 is counted, another number is not
-pub part-next : (g : ℕ → ℕ) (a i : ℕ) → a ≤ i → zeros g (i - a) a + isZero (g i) ≡ zeros g (i + 1 - a) a
-unfolding zeros
-part-next g a i l = let e : i + 1 - i ≡ 1 = omega arith in omega (arith, part-join g a i (i + 1) l (omega arith), ap (λ (n : ℕ). zeros g n i) e)
-
-pub part-more : (g : ℕ → ℕ) (a i n : ℕ) → a ≤ i → n ≡ zeros g (i - a) a → g i ≡ 0 → n + 1 ≡ zeros g (i + 1 - a) a
-part-more g a i n l e z = omega (arith, part-next g a i l, ap isZero z)
-
-pub part-pass : (g : ℕ → ℕ) (a i n : ℕ) → a ≤ i → n ≡ zeros g (i - a) a → (g i ≡ 0 → ⊥) → n ≡ zeros g (i + 1 - a) a
-part-pass g a i n l e z = omega (arith, part-next g a i l, isZero-pos (g i) z)
 
 -- ---- spans, from b to c
 

@@ -3,5 +3,6 @@ pub mod Mapped
 pub mod Translate
 pub mod Satp
 pub mod Missing
+pub mod Runs
 pub mod Ranges
 pub mod Sv39

@@ -1,6 +1,7 @@
 // How many pages of a range have a level-0 word with certain bits: a missing group or block is stepped over whole, and the words
 // of a table are counted as one part.
 use super::missing::lesser;
+use super::runs::run_of;
 use super::steps::slot_in;
 use super::steps::slot_word;
 ghost use Prim.Native.Nat.{_+_, _*_, _/_, _^_, _<_, _≤_};
@@ -27,9 +28,9 @@ fn count_part(words: &[u64], a: usize, e: usize, mask: u64, v: u64) -> usize
     n
 }
 
-// How many pages from first up to end of one block do, where e is its entry.
+// How many pages from first up to end of one block do, where e is its entry; of several blocks, where it is 0.
 fn count_block(words: &[u64], e: u64, first: usize, end: usize, mask: u64, v: u64) -> usize
-    requires { ⌜ (first ≤ end) × (end ≤ 512 * (first / 512) + 512) × (0 < v) ⌝ }
+    requires { ⌜ (first ≤ end) × (0x4000_0000 ≤ e → end ≤ 512 * (first / 512) + 512) × (0 < v) ⌝ }
     ensures { λ r. ⌜ Over (alike mask v (entryUnder (now (words .entry)) e)) first end r ⌝ }
 {
     if e < 0x4000_0000 {
@@ -52,8 +53,9 @@ fn count_group(words: &[u64], top: u64, first: usize, end: usize, mask: u64, v: 
     let mut n: usize = 0;
     let mut page = first;
     while page < end {
-        let next = lesser(512 * (page / 512) + 512, end);
-        let e = slot_word(words, slot_in(top, page / 512 % 512));
+        let m = slot_in(top, page / 512 % 512);
+        let next = lesser(512 * (page / 512 + run_of(words, m)), end);
+        let e = slot_word(words, m);
         n += count_block(words, e, page, next, mask, v);
         page = next;
     }
@@ -68,8 +70,9 @@ pub fn count_pages(words: &[u64], root: usize, first: usize, end: usize, mask: u
     let mut n: usize = 0;
     let mut page = first;
     while page < end {
-        let next = lesser(262144 * (page / 262144) + 262144, end);
-        let top = slot_word(words, 512 * root + page / 512 / 512 + 2);
+        let m = 512 * root + page / 512 / 512 + 2;
+        let next = lesser(262144 * (page / 512 / 512 + run_of(words, m)), end);
+        let top = slot_word(words, m);
         n += count_group(words, top, page, next, mask, v);
         page = next;
     }

@@ -8,6 +8,7 @@ mod scan;
 mod tables;
 mod words;
 
+pub use scan::zeros;
 use store::Answer;
 ghost use Rattle.store.specs.Outcome.{Judges};
 ghost use Rattle.store.specs.Says.{Says};

@@ -2,6 +2,7 @@
 use native.Mathlib.Omega.{arith}
 use borrow.Author.Needs.{needs}
 use Rattle.store.specs.Store.{storeOf}
+use Rattle.store.proofs.Tests.{not-left, not-taken}
 use Rattle.walk.proofs.Calls.{root-in}
 use Rattle.map.proofs.ReasonLaws.{by-root, no-numbers, nothing, no-14, no-17, all-ready}
 use Rattle.map.proofs.judge.judge_map.Statement.{statement}
@@ -51,16 +52,16 @@ returns-4 c =
     let p = c .before .before .before .page-range .ensures in
     no-14 (storeOf (a .words .now) (a .tmarks .now) (a .bytes .now) (a .fmarks .now)) (a .root) (a .va .0) (a .pa .0) (a .size) (a .perm) f o _ _ (p .from) (p .upto) (c .before .before .if3 .left) _ (c .before .count-pages .ensures) (c .if4 .taken)
 
-count-free-requires : tie.Need-count-free-requires
-count-free-requires c κs = search needs
-
 missing-tables-requires : tie.Need-missing-tables-requires
 missing-tables-requires c κs =
-    let a = c .before .before .before .before .before .before .before .before .before .before .before .before .before .args in
-    let f = c .before .before .before .before .before .before .before .before .judge-root .ensures .ready (c .before .before .before .before .before .before .before .if1 .left) in
-    let o = c .before .before .before .before .before .before .judge-numbers .ensures .ready (c .before .before .before .before .before .if2 .left) in
-    let p = c .before .before .before .before .page-range .ensures in
-    (root-in (storeOf (a .words .now) (a .tmarks .now) (a .bytes .now) (a .fmarks .now)) (a .root) (f .sized) (f .is-root), search needs, omega (arith, o .pages (omega arith), c .before .before .before .if3 .left))
+    let a = c .before .before .before .before .before .before .before .before .before .before .before .before .args in
+    let f = c .before .before .before .before .before .before .before .judge-root .ensures .ready (c .before .before .before .before .before .before .if1 .left) in
+    let o = c .before .before .before .before .before .judge-numbers .ensures .ready (c .before .before .before .before .if2 .left) in
+    let p = c .before .before .before .page-range .ensures in
+    (root-in (storeOf (a .words .now) (a .tmarks .now) (a .bytes .now) (a .fmarks .now)) (a .root) (f .sized) (f .is-root), search needs, omega (arith, o .pages (omega arith), c .before .before .if3 .left))
+
+enough-free-requires : tie.Need-enough-free-requires
+enough-free-requires c κs = search needs
 
 returns-5 : tie.Need-returns-5
 returns-5 c =
@@ -68,8 +69,8 @@ returns-5 c =
     let f = c .before .before .before .before .before .before .before .before .before .before .judge-root .ensures .ready (c .before .before .before .before .before .before .before .before .before .if1 .left) in
     let o = c .before .before .before .before .before .before .before .before .judge-numbers .ensures .ready (c .before .before .before .before .before .before .before .if2 .left) in
     let p = c .before .before .before .before .before .before .page-range .ensures in
-    no-17 (storeOf (a .words .now) (a .tmarks .now) (a .bytes .now) (a .fmarks .now)) (a .root) (a .va .0) (a .pa .0) (a .size) (a .perm) f o _ _ (p .from) (p .upto) (c .before .before .before .before .before .if3 .left) _ (c .before .before .before .before .count-pages .ensures) (c .before .before .before .if4 .left) _ _
-    (c .before .before .count-free .ensures) (c .before .missing-tables .ensures) (c .if5 .taken)
+    no-17 (storeOf (a .words .now) (a .tmarks .now) (a .bytes .now) (a .fmarks .now)) (a .root) (a .va .0) (a .pa .0) (a .size) (a .perm) f o _ _ (p .from) (p .upto) (c .before .before .before .before .before .if3 .left) _ (c .before .before .before .before .count-pages .ensures) (c .before .before .before .if4 .left) _
+    (c .before .before .missing-tables .ensures) (not-taken (c .before .enough-free .result) (c .if5 .taken) (c .before .enough-free .ensures))
 
 returns-6 : tie.Need-returns-6
 returns-6 c =
@@ -77,8 +78,8 @@ returns-6 c =
     let f = c .before .before .before .before .before .before .before .before .before .before .judge-root .ensures .ready (c .before .before .before .before .before .before .before .before .before .if1 .left) in
     let o = c .before .before .before .before .before .before .before .before .judge-numbers .ensures .ready (c .before .before .before .before .before .before .before .if2 .left) in
     let p = c .before .before .before .before .before .before .page-range .ensures in
-    all-ready (storeOf (a .words .now) (a .tmarks .now) (a .bytes .now) (a .fmarks .now)) (a .root) (a .va .0) (a .pa .0) (a .size) (a .perm) f o _ _ (p .from) (p .upto) (c .before .before .before .before .before .if3 .left) _ (c .before .before .before .before .count-pages .ensures) (c .before .before .before .if4 .left) _ _
-    (c .before .before .count-free .ensures) (c .before .missing-tables .ensures) (c .if5 .left)
+    all-ready (storeOf (a .words .now) (a .tmarks .now) (a .bytes .now) (a .fmarks .now)) (a .root) (a .va .0) (a .pa .0) (a .size) (a .perm) f o _ _ (p .from) (p .upto) (c .before .before .before .before .before .if3 .left) _ (c .before .before .before .before .count-pages .ensures) (c .before .before .before .if4 .left) _
+    (c .before .before .missing-tables .ensures) (not-left (c .before .enough-free .result) (c .if5 .left) (c .before .enough-free .ensures))
 
 pub judge-map-spec : {M : Type 1} → statement M
 judge-map-spec =
@@ -92,7 +93,7 @@ judge-map-spec =
     returns-3
     count-pages-requires
     returns-4
-    count-free-requires
     missing-tables-requires
+    enough-free-requires
     returns-5
     returns-6)

@@ -8,7 +8,7 @@ use Rattle.store.specs.Count.{zeros}
 use Rattle.store.specs.Walk.{slotWord}
 use Rattle.walk.specs.Missing.{entryUnder}
 use Rattle.store.proofs.Free.{zeros-le}
-use Rattle.walk.proofs.Spans.{part-none, part-more, part-pass}
+use Rattle.store.proofs.Parts.{part-none, part-more, part-pass}
 use Rattle.walk.proofs.missing.blocks_missing.Statement.{statement}
 use Rattle.walk.proofs.missing.blocks_missing.Tie as tie
 

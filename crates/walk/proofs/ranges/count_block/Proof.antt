@@ -1,5 +1,6 @@
 -- `walk::ranges::count_block` meets its contract. Assumes nothing.
 use mathlib.Core.Path.{refl}
+use native.Mathlib.Omega.{arith}
 use borrow.Author.Needs.{needs}
 use Rattle.walk.proofs.RangeLaws.{block-low, block-words}
 use Rattle.walk.proofs.ranges.count_block.Statement.{statement}
@@ -26,7 +27,7 @@ sub-lesser : tie.Need-sub-lesser
 sub-lesser c = search needs
 
 add-lesser : tie.Need-add-lesser
-add-lesser c = search needs
+add-lesser c = omega (arith, c .before .before .before .pre .1 (c .before .if1 .left))
 
 lesser-requires-2 : tie.Need-lesser-requires-2
 lesser-requires-2 c κs = search needs
@@ -38,7 +39,7 @@ returns-2 : tie.Need-returns-2
 returns-2 c =
     let a = c .before .before .before .before .before .args in
     let p = c .before .before .before .before .before .pre in
-    block-words (a .words .now) (a .e) (a .first) (a .end) _ _ _ (a .mask) (a .v) _ (p .2) (p .0) (p .1) (c .before .before .before .if1 .left) refl (c .before .before .lesser .ensures) (c .before .lesser2 .ensures)
+    block-words (a .words .now) (a .e) (a .first) (a .end) _ _ _ (a .mask) (a .v) _ (p .2) (p .0) (p .1 (c .before .before .before .if1 .left)) (c .before .before .before .if1 .left) refl (c .before .before .lesser .ensures) (c .before .lesser2 .ensures)
     (c .count-part .ensures)
 
 pub count-block-spec : {M : Type 1} → statement M

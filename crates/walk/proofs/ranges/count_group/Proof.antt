@@ -1,14 +1,13 @@
 -- `walk::ranges::count_group` meets its contract. The invariant: the pages before `page` are counted. Assumes nothing.
-use mathlib.Core.Path.{ap, _∙_}
 use Prim.Native.Nat.{_-_, _≤_}
+use native.Mathlib.Nat.{le-trans}
 use native.Mathlib.Omega.{arith}
 use borrow.Author.Needs.{needs}
-use Rattle.store.specs.Walk.{slotWord}
 use Rattle.well_formed.specs.Scan.{Over}
 use Rattle.well_formed.proofs.Parts.{over-none, over-done}
 use Rattle.walk.specs.Missing.{entryUnder}
 use Rattle.walk.specs.Ranges.{alike, pageUnder}
-use Rattle.walk.proofs.RangeLaws.{group-low, over-next, page-in-block}
+use Rattle.walk.proofs.RangeLaws.{group-low, over-next, run-one, next-block, few-pages, page-in-block}
 use Rattle.walk.proofs.ranges.count_group.Statement.{statement}
 use Rattle.walk.proofs.ranges.count_group.Tie as tie
 
@@ -26,40 +25,52 @@ returns c =
 loop-holds : tie.Need-loop-holds Inv-loop μ-loop
 loop-holds c = (search needs, search needs, over-none _ _)
 
-mul-lesser : tie.Need-mul-lesser Inv-loop μ-loop
-mul-lesser c = search needs
+slot-in-requires : tie.Need-slot-in-requires Inv-loop μ-loop
+slot-in-requires c κs = search needs
+
+run-of-requires : tie.Need-run-of-requires Inv-loop μ-loop
+run-of-requires c κs = search needs
 
 add-lesser : tie.Need-add-lesser Inv-loop μ-loop
-add-lesser c = search needs
+add-lesser c = omega (arith, c .run-of .ensures .within)
+
+mul-lesser : tie.Need-mul-lesser Inv-loop μ-loop
+mul-lesser c = omega (arith, c .run-of .ensures .within)
 
 lesser-requires : tie.Need-lesser-requires Inv-loop μ-loop
 lesser-requires c κs = search needs
-
-slot-in-requires : tie.Need-slot-in-requires Inv-loop μ-loop
-slot-in-requires c κs = search needs
 
 slot-word-requires : tie.Need-slot-word-requires Inv-loop μ-loop
 slot-word-requires c κs = search needs
 
 count-block-requires : tie.Need-count-block-requires Inv-loop μ-loop
-count-block-requires c κs = search needs
+count-block-requires c κs =
+    let a = c .before .before .before .before .before .before .before .before .args in
+    let run = c .before .before .run-of .ensures in
+    let next = next-block (c .before .before .before .before .before .loop .page) (a .end) _ _ (c .before .before .before .before .loop-test .taken) (run .some) (c .before .lesser .ensures) in
+    (next .0, λ h. omega (arith, next .2, run-one (a .words .now) _ _ run (omega (arith, c .slot-word .ensures))), c .before .before .before .before .before .before .before .before .pre .2)
 
 add-n : tie.Need-add-n Inv-loop μ-loop
-add-n c = omega (arith, c .count-block .ensures .few, c .before .before .before .before .before .loop .inv .2 .few)
+add-n c =
+    let a = c .before .before .before .before .before .before .before .before .before .args in
+    let l = c .before .before .before .before .before .before .loop .inv in
+    let next = next-block (c .before .before .before .before .before .before .loop .page) (a .end) _ _ (c .before .before .before .before .before .loop-test .taken) (c .before .before .before .run-of .ensures .some) (c .before .before .lesser .ensures) in
+    record { fits = few-pages (a .first) (c .before .before .before .before .before .before .loop .page) _ (a .end) _ _ (l .0) (next .0) (next .1) (c .before .before .before .before .before .before .before .before .before .pre .1) (l .2 .few) (c .count-block .ensures .few) }
 
 loop-less : tie.Need-loop-less Inv-loop μ-loop
-loop-less c = omega (arith, c .before .before .before .lesser .ensures, c .before .before .before .before .loop-test .taken)
+loop-less c = omega (arith, c .before .before .lesser .ensures, c .before .before .before .run-of .ensures .some, c .before .before .before .before .before .loop-test .taken)
 
 loop-again : tie.Need-loop-again Inv-loop μ-loop
 loop-again c =
-    let a = c .before .before .before .before .before .before .before .before .args in
-    let l = c .before .before .before .before .before .loop .inv in
+    let a = c .before .before .before .before .before .before .before .before .before .args in
+    let l = c .before .before .before .before .before .before .loop .inv in
     let e = c .before .slot-word in
-    let read = e .ensures ∙ ap (slotWord (a .words .now)) (c .before .before .slot-in .ensures) in (
-      search needs,
-      search needs,
-      over-next (entryUnder (a .words .now) (e .result)) (pageUnder (a .words .now) (a .top)) (a .mask) (a .v) (a .first) _ _ _ _ (l .0) (omega arith)
-          (page-in-block (a .words .now) (a .top) _ _ _ read (omega arith)) (l .2) (c .count-block .ensures),
+    let run = c .before .before .before .run-of .ensures in
+    let next = next-block (c .before .before .before .before .before .before .loop .page) (a .end) _ _ (c .before .before .before .before .before .loop-test .taken) (run .some) (c .before .before .lesser .ensures) in (
+      le-trans (l .0) (next .0),
+      next .1,
+      over-next (entryUnder (a .words .now) (e .result)) (pageUnder (a .words .now) (a .top)) (a .mask) (a .v) (a .first) _ _ _ _ (l .0) (next .0)
+          (page-in-block (a .words .now) (a .top) _ _ _ _ _ (c .before .before .before .before .slot-in .ensures) run (e .ensures) (next .2)) (l .2) (c .count-block .ensures),
     )
 
 returns-2 : tie.Need-returns-2 Inv-loop μ-loop
@@ -75,10 +86,11 @@ count-group-spec =
     μ-loop
     returns
     loop-holds
-    mul-lesser
-    add-lesser
-    lesser-requires
     slot-in-requires
+    run-of-requires
+    add-lesser
+    mul-lesser
+    lesser-requires
     slot-word-requires
     count-block-requires
     add-n

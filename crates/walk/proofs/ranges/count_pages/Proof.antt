@@ -18,23 +18,26 @@ abbrev μ-loop : tie.MeasureT-loop
 loop-holds : tie.Need-loop-holds Inv-loop μ-loop
 loop-holds c = (search needs, search needs, over-none _ _)
 
-mul-lesser : tie.Need-mul-lesser Inv-loop μ-loop
-mul-lesser c = search needs
+mul-m : tie.Need-mul-m Inv-loop μ-loop
+mul-m c = search needs
+
+add-m : tie.Need-add-m Inv-loop μ-loop
+add-m c = search needs
+
+add-m-2 : tie.Need-add-m-2 Inv-loop μ-loop
+add-m-2 c = search needs
+
+run-of-requires : tie.Need-run-of-requires Inv-loop μ-loop
+run-of-requires c κs = search needs
 
 add-lesser : tie.Need-add-lesser Inv-loop μ-loop
-add-lesser c = search needs
+add-lesser c = omega (arith, c .run-of .ensures .within)
+
+mul-lesser : tie.Need-mul-lesser Inv-loop μ-loop
+mul-lesser c = omega (arith, c .run-of .ensures .within)
 
 lesser-requires : tie.Need-lesser-requires Inv-loop μ-loop
 lesser-requires c κs = search needs
-
-mul-slot-word : tie.Need-mul-slot-word Inv-loop μ-loop
-mul-slot-word c = search needs
-
-add-slot-word : tie.Need-add-slot-word Inv-loop μ-loop
-add-slot-word c = search needs
-
-add-slot-word-2 : tie.Need-add-slot-word-2 Inv-loop μ-loop
-add-slot-word-2 c = search needs
 
 slot-word-requires : tie.Need-slot-word-requires Inv-loop μ-loop
 slot-word-requires c κs = search needs
@@ -43,20 +46,21 @@ count-group-requires : tie.Need-count-group-requires Inv-loop μ-loop
 count-group-requires c κs = search needs
 
 add-n : tie.Need-add-n Inv-loop μ-loop
-add-n c = omega (arith, c .count-group .ensures .few, c .before .before .before .before .loop .inv .2 .few)
+add-n c = omega (arith, c .count-group .ensures .few, c .before .before .before .before .before .loop .inv .2 .few)
 
 loop-less : tie.Need-loop-less Inv-loop μ-loop
-loop-less c = omega (arith, c .before .before .lesser .ensures, c .before .before .before .loop-test .taken)
+loop-less c = omega (arith, c .before .before .lesser .ensures, c .before .before .before .run-of .ensures .some, c .before .before .before .before .loop-test .taken)
 
 loop-again : tie.Need-loop-again Inv-loop μ-loop
 loop-again c =
-    let a = c .before .before .before .before .before .before .args in
-    let l = c .before .before .before .before .loop .inv in
-    let top = c .before .slot-word in (
+    let a = c .before .before .before .before .before .before .before .args in
+    let l = c .before .before .before .before .before .loop .inv in
+    let top = c .before .slot-word in
+    let run = c .before .before .before .run-of in (
       search needs,
       search needs,
-      over-next (pageUnder (a .words .now) (top .result)) (entryIn (a .words .now) (a .root) 2) (a .mask) (a .v) (a .first) _ _ _ _ (l .0) (omega arith)
-          (page-in-group (a .words .now) (a .root) _ _ _ (top .ensures) (omega arith)) (l .2) (c .count-group .ensures),
+      over-next (pageUnder (a .words .now) (top .result)) (entryIn (a .words .now) (a .root) 2) (a .mask) (a .v) (a .first) _ _ _ _ (l .0) (omega (arith, run .ensures .some))
+          (page-in-group (a .words .now) (a .root) _ _ _ _ (run .ensures) (top .ensures) (omega arith)) (l .2) (c .count-group .ensures),
     )
 
 returns : tie.Need-returns Inv-loop μ-loop
@@ -71,12 +75,13 @@ count-pages-spec =
     Inv-loop
     μ-loop
     loop-holds
-    mul-lesser
+    mul-m
+    add-m
+    add-m-2
+    run-of-requires
     add-lesser
+    mul-lesser
     lesser-requires
-    mul-slot-word
-    add-slot-word
-    add-slot-word-2
     slot-word-requires
     count-group-requires
     add-n
