@@ -4,7 +4,10 @@ use super::bytes as user;
 use super::needed;
 use address::VirtualAddress;
 ghost use mathlib.Core.Path.{_≡_};
+ghost use Prim.Native.Nat.{_+_, _≤_};
+ghost use lib.ListN.{length};
 ghost use Rattle.store.specs.Count.{lowest};
+ghost use Rattle.store.specs.Says.{Says};
 ghost use Rattle.store.specs.Store.{storeOf};
 ghost use Rattle.well_formed.specs.Root.{RootReady};
 ghost use Rattle.copies.specs.Str.{Str, Measures};
@@ -16,11 +19,32 @@ struct Way {
     met: bool,
 }
 
-// The place of the first zero, or the length where there is none.
-fn first_zero(part: &[u8]) -> usize
+// Whether none of the 256 bytes from a on is zero, where none before a is: their least, found without a branch for a byte.
+fn no_zero(part: &[u8], a: usize) -> bool
+    requires { ⌜ (a ≤ lowest (now part)) × (a + 256 ≤ length (now part)) ⌝ }
+    ensures { λ r. ⌜ Says r (a + 256 ≤ lowest (now (part .entry))) ⌝ }
+{
+    let mut least: u8 = 255;
+    let mut i = a;
+    while i < a + 256 {
+        let x = part[i];
+        i += 1;
+        if x < least {
+            least = x;
+        }
+    }
+    if least == 0 {
+        return false;
+    }
+    true
+}
+
+// The place of the first zero, or the length where there is none; it is known that none before from is zero.
+fn zero_from(part: &[u8], from: usize) -> usize
+    requires { ⌜ from ≤ lowest (now part) ⌝ }
     ensures { λ r. ⌜ r ≡ lowest (now (part .entry)) ⌝ }
 {
-    let mut i = 0;
+    let mut i = from;
     while i < part.len() {
         if part[i] == 0 {
             return i;
@@ -28,6 +52,20 @@ fn first_zero(part: &[u8]) -> usize
         i += 1;
     }
     i
+}
+
+// The same where nothing is known: 256 bytes at a time, as long as none of them is zero.
+fn first_zero(part: &[u8]) -> usize
+    ensures { λ r. ⌜ r ≡ lowest (now (part .entry)) ⌝ }
+{
+    let mut i = 0;
+    while part.len() - i >= 256 {
+        if !no_zero(part, i) {
+            return zero_from(part, i);
+        }
+        i += 256;
+    }
+    zero_from(part, i)
 }
 
 // Follows at most max bytes from va on, page by page, up to the first zero.

@@ -1,11 +1,11 @@
 -- `copies::text::first_zero` meets its contract. The invariant: the first zero is not before i. Assumes nothing.
 use Prim.Native.Nat.{_-_, _≤_}
 use native.Mathlib.Omega.{arith}
-use native.Mathlib.Numerals.{add-one}
 use borrow.Author.Needs.{needs}
 use lib.ListN.{length}
 use Rattle.store.specs.Count.{lowest}
-use Rattle.store.proofs.Free.{lowest-here, lowest-next, lowest-le}
+use Rattle.store.proofs.Free.{lowest-le}
+use Rattle.store.proofs.Tests.{not-left}
 use Rattle.copies.proofs.text.first_zero.Statement.{statement}
 use Rattle.copies.proofs.text.first_zero.Tie as tie
 
@@ -18,12 +18,17 @@ abbrev μ-loop : tie.MeasureT-loop
 loop-holds : tie.Need-loop-holds Inv-loop μ-loop
 loop-holds c = search needs
 
-shared-slice-read-if1 : tie.Need-shared-slice-read-if1 Inv-loop μ-loop
-shared-slice-read-if1 c = search needs
+sub-loop : tie.Need-sub-loop Inv-loop μ-loop
+sub-loop c = omega (arith, lowest-le (c .before .before .args .part .now))
+
+no-zero-requires : tie.Need-no-zero-requires Inv-loop μ-loop
+no-zero-requires c κs = (search needs, omega arith)
+
+zero-from-requires : tie.Need-zero-from-requires Inv-loop μ-loop
+zero-from-requires c κs = search needs
 
 returns : tie.Need-returns Inv-loop μ-loop
-returns c =
-    lowest-here (c .before .before .before .before .args .part .now) (c .before .before .before .loop .i) (c .before .before .before .loop .inv) (omega arith) (c .if1 .taken)
+returns c = search needs
 
 add-i : tie.Need-add-i Inv-loop μ-loop
 add-i c = search needs
@@ -32,12 +37,27 @@ loop-less : tie.Need-loop-less Inv-loop μ-loop
 loop-less c = search needs
 
 loop-again : tie.Need-loop-again Inv-loop μ-loop
-loop-again c = rw add-one (lowest-next (c .before .before .before .before .args .part .now) (c .before .before .before .loop .i) (c .before .before .before .loop .inv) (omega arith) (c .if1 .left))
+loop-again c = not-left (c .before .no-zero .result) (c .if1 .left) (c .before .no-zero .ensures)
+
+zero-from-requires-2 : tie.Need-zero-from-requires-2 Inv-loop μ-loop
+zero-from-requires-2 c κs = search needs
 
 returns-2 : tie.Need-returns-2 Inv-loop μ-loop
-returns-2 c = omega (arith, lowest-le (c .before .before .args .part .now))
+returns-2 c = search needs
 
 pub first-zero-spec : {M : Type 1} → statement M
 first-zero-spec =
     tie.close
-    (tie.spec Inv-loop μ-loop loop-holds shared-slice-read-if1 returns add-i loop-less loop-again returns-2)
+    (tie.spec
+    Inv-loop
+    μ-loop
+    loop-holds
+    sub-loop
+    no-zero-requires
+    zero-from-requires
+    returns
+    add-i
+    loop-less
+    loop-again
+    zero-from-requires-2
+    returns-2)
