@@ -28,6 +28,20 @@ fn count_part(words: &[u64], a: usize, e: usize, mask: u64, v: u64) -> usize
     n
 }
 
+// The same; for bit 0 alone the numbers are written out, for a shorter loop.
+fn count_bits(words: &[u64], a: usize, e: usize, mask: u64, v: u64) -> usize
+    requires { ⌜ (a ≤ e) × (e ≤ length (now words)) ⌝ }
+    ensures { λ r. ⌜ Over (alike mask v (word (now (words .entry)))) a e r ⌝ }
+{
+    if mask != 1 {
+        return count_part(words, a, e, mask, v);
+    }
+    if v != 1 {
+        return count_part(words, a, e, mask, v);
+    }
+    count_part(words, a, e, 1, 1)
+}
+
 // How many pages from first up to end of one block do, where e is its entry; of several blocks, where it is 0.
 fn count_block(words: &[u64], e: u64, first: usize, end: usize, mask: u64, v: u64) -> usize
     requires { ⌜ (first ≤ end) × (0x4000_0000 ≤ e → end ≤ 512 * (first / 512) + 512) × (0 < v) ⌝ }
@@ -39,7 +53,7 @@ fn count_block(words: &[u64], e: u64, first: usize, end: usize, mask: u64, v: u6
     let from = 512 * ((e / 1024) as usize - 0x10_0000) + first % 512;
     let a = lesser(from, words.len());
     let b = lesser(from + (end - first), words.len());
-    count_part(words, a, b, mask, v)
+    count_bits(words, a, b, mask, v)
 }
 
 // How many pages from first up to end of one group do, where top is the root's entry of it.

@@ -18,6 +18,9 @@ pub fn run_of(words: &[u64], m: usize) -> usize
     if words.len() - 64 < w {
         return 1;
     }
+    if words[w] != 0 {
+        return 1;
+    }
     if !well_formed::zeros(words, w, w + 64) {
         return 1;
     }

@@ -32,15 +32,15 @@ add-lesser c = omega (arith, c .before .before .before .pre .1 (c .before .if1 .
 lesser-requires-2 : tie.Need-lesser-requires-2
 lesser-requires-2 c κs = search needs
 
-count-part-requires : tie.Need-count-part-requires
-count-part-requires c κs = search needs
+count-bits-requires : tie.Need-count-bits-requires
+count-bits-requires c κs = search needs
 
 returns-2 : tie.Need-returns-2
 returns-2 c =
     let a = c .before .before .before .before .before .args in
     let p = c .before .before .before .before .before .pre in
     block-words (a .words .now) (a .e) (a .first) (a .end) _ _ _ (a .mask) (a .v) _ (p .2) (p .0) (p .1 (c .before .before .before .if1 .left)) (c .before .before .before .if1 .left) refl (c .before .before .lesser .ensures) (c .before .lesser2 .ensures)
-    (c .count-part .ensures)
+    (c .count-bits .ensures)
 
 pub count-block-spec : {M : Type 1} → statement M
 count-block-spec =
@@ -54,5 +54,5 @@ count-block-spec =
     sub-lesser
     add-lesser
     lesser-requires-2
-    count-part-requires
+    count-bits-requires
     returns-2)

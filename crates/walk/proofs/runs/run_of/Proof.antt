@@ -21,19 +21,28 @@ sub-if4 c = search needs
 returns-4 : tie.Need-returns-4
 returns-4 c = search needs
 
+mul-if5 : tie.Need-mul-if5
+mul-if5 c = search needs
+
+shared-slice-read-if5 : tie.Need-shared-slice-read-if5
+shared-slice-read-if5 c = search needs
+
+returns-5 : tie.Need-returns-5
+returns-5 c = search needs
+
 add-zeros : tie.Need-add-zeros
 add-zeros c = search needs
 
 zeros-requires : tie.Need-zeros-requires
 zeros-requires c κs = search needs
 
-returns-5 : tie.Need-returns-5
-returns-5 c = search needs
-
 returns-6 : tie.Need-returns-6
-returns-6 c =
-    let a = c .before .before .before .before .before .before .before .args in
-    let zero = not-left (c .before .zeros .result) (c .if5 .left) (c .before .zeros .ensures) in
+returns-6 c = search needs
+
+returns-7 : tie.Need-returns-7
+returns-7 c =
+    let a = c .before .before .before .before .before .before .before .before .before .args in
+    let zero = not-left (c .before .zeros .result) (c .if6 .left) (c .before .zeros .ensures) in
     empty-run (a .words .now) (a .m) (omega arith) (omega arith) zero
 
 pub run-of-spec : {M : Type 1} → statement M
@@ -45,7 +54,10 @@ run-of-spec =
     returns-3
     sub-if4
     returns-4
+    mul-if5
+    shared-slice-read-if5
+    returns-5
     add-zeros
     zeros-requires
-    returns-5
-    returns-6)
+    returns-6
+    returns-7)
