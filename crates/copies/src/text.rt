@@ -4,7 +4,7 @@ use super::bytes as user;
 use super::needed;
 use address::VirtualAddress;
 ghost use mathlib.Core.Path.{_≡_};
-ghost use Prim.Native.Nat.{_+_, _≤_};
+ghost use Prim.Native.Nat.{_≤_, _<_};
 ghost use lib.ListN.{length};
 ghost use Rattle.store.specs.Count.{lowest};
 ghost use Rattle.store.specs.Says.{Says};
@@ -19,14 +19,14 @@ struct Way {
     met: bool,
 }
 
-// Whether none of the 256 bytes from a on is zero, where none before a is: their least, found without a branch for a byte.
-fn no_zero(part: &[u8], a: usize) -> bool
-    requires { ⌜ (a ≤ lowest (now part)) × (a + 256 ≤ length (now part)) ⌝ }
-    ensures { λ r. ⌜ Says r (a + 256 ≤ lowest (now (part .entry))) ⌝ }
+// Whether no byte from a up to e is zero, where none before a is: their least, found without a branch for a byte.
+fn no_zero(part: &[u8], a: usize, e: usize) -> bool
+    requires { ⌜ (a ≤ lowest (now part)) × (a ≤ e) × (e ≤ length (now part)) ⌝ }
+    ensures { λ r. ⌜ Says r (e ≤ lowest (now (part .entry))) ⌝ }
 {
     let mut least: u8 = 255;
     let mut i = a;
-    while i < a + 256 {
+    while i < e {
         let x = part[i];
         i += 1;
         if x < least {
@@ -37,6 +37,21 @@ fn no_zero(part: &[u8], a: usize) -> bool
         return false;
     }
     true
+}
+
+// Goes on from a place before which no byte is zero, by as many whole steps as have no zero.
+fn skip(part: &[u8], from: usize, step: usize) -> usize
+    requires { ⌜ (from ≤ lowest (now part)) × (0 < step) ⌝ }
+    ensures { λ r. ⌜ r ≤ lowest (now (part .entry)) ⌝ }
+{
+    let mut i = from;
+    while part.len() - i >= step {
+        if !no_zero(part, i, i + step) {
+            return i;
+        }
+        i += step;
+    }
+    i
 }
 
 // The place of the first zero, or the length where there is none; it is known that none before from is zero.
@@ -54,18 +69,13 @@ fn zero_from(part: &[u8], from: usize) -> usize
     i
 }
 
-// The same where nothing is known: 256 bytes at a time, as long as none of them is zero.
+// The same where nothing is known: by long steps, then by short ones, and at last byte by byte.
 fn first_zero(part: &[u8]) -> usize
     ensures { λ r. ⌜ r ≡ lowest (now (part .entry)) ⌝ }
 {
-    let mut i = 0;
-    while part.len() - i >= 256 {
-        if !no_zero(part, i) {
-            return zero_from(part, i);
-        }
-        i += 256;
-    }
-    zero_from(part, i)
+    let long = skip(part, 0, 512);
+    let short = skip(part, long, 64);
+    zero_from(part, short)
 }
 
 // Follows at most max bytes from va on, page by page, up to the first zero.

@@ -1,6 +1,6 @@
 -- `copies::text::no_zero` meets its contract. The invariant: the least byte so far is 0 exactly if the first zero is before i. Assumes nothing.
 use mathlib.Core.Path.{_≡_}
-use Prim.Native.Nat.{_+_, _-_, _≤_, _<_}
+use Prim.Native.Nat.{_-_, _≤_, _<_}
 use native.Mathlib.Omega.{arith}
 use native.Mathlib.Numerals.{add-one}
 use borrow.Author.Needs.{needs}
@@ -10,16 +10,13 @@ use Rattle.copies.proofs.text.no_zero.Statement.{statement}
 use Rattle.copies.proofs.text.no_zero.Tie as tie
 
 abbrev Inv-loop : tie.InvT-loop
-Inv-loop part a least₀ i₀ least i = (i ≤ a + 256) × (least ≡ 0 → lowest part < i) × (0 < least → i ≤ lowest part)
+Inv-loop part a e least₀ i₀ least i = (i ≤ e) × (least ≡ 0 → lowest part < i) × (0 < least → i ≤ lowest part)
 
 abbrev μ-loop : tie.MeasureT-loop
-μ-loop part a least₀ i₀ least i = a + 256 - i
+μ-loop part a e least₀ i₀ least i = e - i
 
 loop-holds : tie.Need-loop-holds Inv-loop μ-loop
 loop-holds c = (search needs, (λ e. omega (arith, e)), λ l. search needs)
-
-add-loop : tie.Need-add-loop Inv-loop μ-loop
-add-loop c = search needs
 
 shared-slice-read-x : tie.Need-shared-slice-read-x Inv-loop μ-loop
 shared-slice-read-x c = search needs
@@ -63,7 +60,6 @@ no-zero-spec =
     Inv-loop
     μ-loop
     loop-holds
-    add-loop
     shared-slice-read-x
     add-i
     loop-less

@@ -1,4 +1,4 @@
--- `copies::text::first_zero` meets its contract. The invariant: the first zero is not before i. Assumes nothing.
+-- `copies::text::skip` meets its contract. The invariant: the first zero is not before i. Assumes nothing.
 use Prim.Native.Nat.{_-_, _≤_}
 use native.Mathlib.Omega.{arith}
 use borrow.Author.Needs.{needs}
@@ -6,14 +6,14 @@ use lib.ListN.{length}
 use Rattle.store.specs.Count.{lowest}
 use Rattle.store.proofs.Free.{lowest-le}
 use Rattle.store.proofs.Tests.{not-left}
-use Rattle.copies.proofs.text.first_zero.Statement.{statement}
-use Rattle.copies.proofs.text.first_zero.Tie as tie
+use Rattle.copies.proofs.text.skip.Statement.{statement}
+use Rattle.copies.proofs.text.skip.Tie as tie
 
 abbrev Inv-loop : tie.InvT-loop
-Inv-loop part i₀ i = i ≤ lowest part
+Inv-loop part from step i₀ i = i ≤ lowest part
 
 abbrev μ-loop : tie.MeasureT-loop
-μ-loop part i₀ i = length part - i
+μ-loop part from step i₀ i = length part - i
 
 loop-holds : tie.Need-loop-holds Inv-loop μ-loop
 loop-holds c = search needs
@@ -22,10 +22,10 @@ sub-loop : tie.Need-sub-loop Inv-loop μ-loop
 sub-loop c = omega (arith, lowest-le (c .before .before .args .part .now))
 
 no-zero-requires : tie.Need-no-zero-requires Inv-loop μ-loop
-no-zero-requires c κs = (search needs, omega arith)
+no-zero-requires c κs = (search needs, omega arith, omega arith)
 
-zero-from-requires : tie.Need-zero-from-requires Inv-loop μ-loop
-zero-from-requires c κs = search needs
+add-no-zero : tie.Need-add-no-zero Inv-loop μ-loop
+add-no-zero c = search needs
 
 returns : tie.Need-returns Inv-loop μ-loop
 returns c = search needs
@@ -39,25 +39,21 @@ loop-less c = search needs
 loop-again : tie.Need-loop-again Inv-loop μ-loop
 loop-again c = not-left (c .before .no-zero .result) (c .if1 .left) (c .before .no-zero .ensures)
 
-zero-from-requires-2 : tie.Need-zero-from-requires-2 Inv-loop μ-loop
-zero-from-requires-2 c κs = search needs
-
 returns-2 : tie.Need-returns-2 Inv-loop μ-loop
 returns-2 c = search needs
 
-pub first-zero-spec : {M : Type 1} → statement M
-first-zero-spec =
+pub skip-spec : {M : Type 1} → statement M
+skip-spec =
     tie.close
     (tie.spec
     Inv-loop
     μ-loop
     loop-holds
     sub-loop
+    add-no-zero
     no-zero-requires
-    zero-from-requires
     returns
     add-i
     loop-less
     loop-again
-    zero-from-requires-2
     returns-2)
