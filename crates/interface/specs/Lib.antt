@@ -1,4 +1,3 @@
 -- What the contracts of `interface` cite.
 pub mod Reply
 pub mod Calls
-pub mod Told

@@ -7,3 +7,4 @@ pub mod PartLeft
 pub mod Lawful
 pub mod Calls
 pub mod Sequences
+pub mod Steps

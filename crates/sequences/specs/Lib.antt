@@ -4,3 +4,4 @@ pub mod Answers
 pub mod Numbers
 pub mod Sequence
 pub mod Laws
+pub mod Told

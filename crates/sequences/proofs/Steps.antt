@@ -23,12 +23,12 @@ use Rattle.copies.specs.Str.{strSaid}
 use Rattle.copies.specs.Child.{Child}
 use Rattle.release.specs.Free.{Free}
 use Rattle.release.specs.Parts.{UvmFree, SharedFree, ProcFree}
 use Rattle.sequences.specs.Call.{set-up, check, uvmcreate, map, pgt-translate, uvm-init, uvm-alloc, uvm-dealloc, uvm-unmap, uvm-clear, uvm-copy, copy-out, copy-in, copy-in-str, free, uvm-free, proc-free-pagetable, free-shared-user-pagetable, as-satp, lent}
 use Rattle.sequences.specs.Answers.{Writes, Reads}
 use Rattle.interface.specs.Reply.{Replied}
 use Rattle.interface.specs.Calls.{SetUpReply, CheckReply, TranslateReply, SatpReply, CreateReply, MapReply, UnmapReply, ClearReply, InitReply, GrowReply, ShrinkReply, InReply, OutReply, StrReply, ChildReply, FreeReply, UvmFreeReply, SharedFreeReply, ProcFreeReply}
-use Rattle.interface.specs.Told.{Told, Tells}
+use Rattle.sequences.specs.Told.{Told, Tells}
 use Rattle.interface.specs.declared.Reply.{Reply}
 
 -- b is a buffer that is not lent, or that which is filled and becomes b′
 module _ (s : Store) (b : List ℕ) (r : Reply) where
