@@ -3,7 +3,6 @@
 use crate::archive;
 use crate::{Refusal, Store, VirtualAddress};
 
-// The pointers and lengths below are those of slices that are borrowed for the call, as in store.rs.
 impl Store<'_> {
     /// Copies the bytes of a root from `va` on to the buffer, as many as it is long. The page of each byte is needed, and
     /// for an empty buffer the page of `va`.
@@ -27,23 +26,7 @@ impl Store<'_> {
     /// # Ok::<(), ronakvesh::Refusal>(())
     /// ```
     pub fn copy_in(&self, root: u64, va: VirtualAddress, dst: &mut [u8]) -> Result<(), Refusal> {
-        let reply = unsafe {
-            archive::ronakvesh_copy_in(
-                self.words.as_ptr(),
-                self.words.len(),
-                self.tmarks.as_ptr(),
-                self.tmarks.len(),
-                self.bytes.as_ptr(),
-                self.bytes.len(),
-                self.fmarks.as_ptr(),
-                self.fmarks.len(),
-                root,
-                va.0,
-                dst.as_mut_ptr(),
-                dst.len(),
-            )
-        };
-        reply.result().map(|_| ())
+        archive::ronakvesh_copy_in(self, root, va.0, dst).map(|_| ())
     }
 
     /// Copies the source to the bytes of a root from `va` on. The page of each byte is needed, and for an empty source the
@@ -66,23 +49,7 @@ impl Store<'_> {
     /// # Ok::<(), ronakvesh::Refusal>(())
     /// ```
     pub fn copy_out(&mut self, root: u64, va: VirtualAddress, src: &[u8]) -> Result<(), Refusal> {
-        let reply = unsafe {
-            archive::ronakvesh_copy_out(
-                self.words.as_ptr(),
-                self.words.len(),
-                self.tmarks.as_ptr(),
-                self.tmarks.len(),
-                self.bytes.as_mut_ptr(),
-                self.bytes.len(),
-                self.fmarks.as_ptr(),
-                self.fmarks.len(),
-                root,
-                va.0,
-                src.as_ptr(),
-                src.len(),
-            )
-        };
-        reply.result().map(|_| ())
+        archive::ronakvesh_copy_out(self, root, va.0, src).map(|_| ())
     }
 
     /// Copies the bytes of a root from `va` on, up to the first zero or the end of the buffer, to the buffer; the zero is
@@ -113,24 +80,9 @@ impl Store<'_> {
     /// # Ok::<(), ronakvesh::Refusal>(())
     /// ```
     pub fn copy_in_str(&self, root: u64, va: VirtualAddress, dst: &mut [u8]) -> Result<(usize, bool), Refusal> {
-        let reply = unsafe {
-            archive::ronakvesh_copy_in_str(
-                self.words.as_ptr(),
-                self.words.len(),
-                self.tmarks.as_ptr(),
-                self.tmarks.len(),
-                self.bytes.as_ptr(),
-                self.bytes.len(),
-                self.fmarks.as_ptr(),
-                self.fmarks.len(),
-                root,
-                va.0,
-                dst.as_mut_ptr(),
-                dst.len(),
-            )
-        };
+        let copied = archive::ronakvesh_copy_in_str(self, root, va.0, dst)? as usize;
         // the value is at most the length, and less exactly where a zero was met
-        reply.result().map(|copied| (copied as usize, (copied as usize) < dst.len()))
+        Ok((copied, copied < dst.len()))
     }
 
     /// Copies the pages that `size` bytes from 0 on take from a parent root to a child root: each page of the child gets the
@@ -156,21 +108,6 @@ impl Store<'_> {
     /// # Ok::<(), ronakvesh::Refusal>(())
     /// ```
     pub fn uvm_copy(&mut self, parent: u64, child: u64, size: u64) -> Result<(), Refusal> {
-        let reply = unsafe {
-            archive::ronakvesh_uvm_copy(
-                self.words.as_mut_ptr(),
-                self.words.len(),
-                self.tmarks.as_mut_ptr(),
-                self.tmarks.len(),
-                self.bytes.as_mut_ptr(),
-                self.bytes.len(),
-                self.fmarks.as_mut_ptr(),
-                self.fmarks.len(),
-                parent,
-                child,
-                size,
-            )
-        };
-        reply.result().map(|_| ())
+        archive::ronakvesh_uvm_copy(self, parent, child, size).map(|_| ())
     }
 }

@@ -3,7 +3,6 @@
 use crate::archive;
 use crate::{Refusal, Store};
 
-// The pointers and lengths below are those of slices that are borrowed for the call, as in store.rs.
 impl Store<'_> {
     /// Gives back every table of a root, the root included, and answers how many they were. Tables that are given back are
     /// zero and free again; frames stay as they are.
@@ -25,20 +24,7 @@ impl Store<'_> {
     /// # Ok::<(), ronakvesh::Refusal>(())
     /// ```
     pub fn free(&mut self, root: u64) -> Result<u64, Refusal> {
-        let reply = unsafe {
-            archive::ronakvesh_free(
-                self.words.as_mut_ptr(),
-                self.words.len(),
-                self.tmarks.as_mut_ptr(),
-                self.tmarks.len(),
-                self.bytes.as_ptr(),
-                self.bytes.len(),
-                self.fmarks.as_ptr(),
-                self.fmarks.len(),
-                root,
-            )
-        };
-        reply.result()
+        archive::ronakvesh_free(self, root)
     }
 
     /// Takes the pages that `size` bytes from 0 on lie in out of a root, and gives back their pool frames, which keep their
@@ -62,21 +48,7 @@ impl Store<'_> {
     /// # Ok::<(), ronakvesh::Refusal>(())
     /// ```
     pub fn uvm_free(&mut self, root: u64, size: u64) -> Result<u64, Refusal> {
-        let reply = unsafe {
-            archive::ronakvesh_uvm_free(
-                self.words.as_mut_ptr(),
-                self.words.len(),
-                self.tmarks.as_mut_ptr(),
-                self.tmarks.len(),
-                self.bytes.as_ptr(),
-                self.bytes.len(),
-                self.fmarks.as_mut_ptr(),
-                self.fmarks.len(),
-                root,
-                size,
-            )
-        };
-        reply.result()
+        archive::ronakvesh_uvm_free(self, root, size)
     }
 
     /// As [`uvm_free`](Store::uvm_free), after the page TRAMPOLINE, at 0x3F_FFFF_F000, has been taken out without giving a
@@ -98,21 +70,7 @@ impl Store<'_> {
     /// # Ok::<(), ronakvesh::Refusal>(())
     /// ```
     pub fn free_shared_user_pagetable(&mut self, root: u64, size: u64) -> Result<u64, Refusal> {
-        let reply = unsafe {
-            archive::ronakvesh_free_shared_user_pagetable(
-                self.words.as_mut_ptr(),
-                self.words.len(),
-                self.tmarks.as_mut_ptr(),
-                self.tmarks.len(),
-                self.bytes.as_ptr(),
-                self.bytes.len(),
-                self.fmarks.as_mut_ptr(),
-                self.fmarks.len(),
-                root,
-                size,
-            )
-        };
-        reply.result()
+        archive::ronakvesh_free_shared_user_pagetable(self, root, size)
     }
 
     /// As [`uvm_free`](Store::uvm_free), after the page TRAMPOLINE, at 0x3F_FFFF_F000, and then the page TRAPFRAME, at
@@ -136,20 +94,6 @@ impl Store<'_> {
     /// # Ok::<(), ronakvesh::Refusal>(())
     /// ```
     pub fn proc_free_pagetable(&mut self, root: u64, size: u64) -> Result<u64, Refusal> {
-        let reply = unsafe {
-            archive::ronakvesh_proc_free_pagetable(
-                self.words.as_mut_ptr(),
-                self.words.len(),
-                self.tmarks.as_mut_ptr(),
-                self.tmarks.len(),
-                self.bytes.as_ptr(),
-                self.bytes.len(),
-                self.fmarks.as_mut_ptr(),
-                self.fmarks.len(),
-                root,
-                size,
-            )
-        };
-        reply.result()
+        archive::ronakvesh_proc_free_pagetable(self, root, size)
     }
 }

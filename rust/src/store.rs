@@ -22,8 +22,6 @@ pub struct Store<'a> {
     pub fmarks: &'a mut [u32],
 }
 
-// The pointers and lengths below are those of slices that are borrowed for the call. So they are aligned, not null
-// and apart, and what is handed over as writable is borrowed as such: that is all that the archive asks of a caller.
 impl Store<'_> {
     /// Writes zeros to all four slices: every table and every frame is free, and the store is well formed.
     ///
@@ -40,19 +38,7 @@ impl Store<'_> {
     /// assert_eq!(store.set_up(), Err(Refusal::Sizes));
     /// ```
     pub fn set_up(&mut self) -> Result<(), Refusal> {
-        let reply = unsafe {
-            archive::ronakvesh_set_up(
-                self.words.as_mut_ptr(),
-                self.words.len(),
-                self.tmarks.as_mut_ptr(),
-                self.tmarks.len(),
-                self.bytes.as_mut_ptr(),
-                self.bytes.len(),
-                self.fmarks.as_mut_ptr(),
-                self.fmarks.len(),
-            )
-        };
-        reply.result().map(|_| ())
+        archive::ronakvesh_set_up(self).map(|_| ())
     }
 
     /// Whether the store is well formed: yes exactly where W1 to W5 of document 01 hold.
@@ -70,19 +56,7 @@ impl Store<'_> {
     /// # Ok::<(), ronakvesh::Refusal>(())
     /// ```
     pub fn check(&self) -> Result<bool, Refusal> {
-        let reply = unsafe {
-            archive::ronakvesh_check(
-                self.words.as_ptr(),
-                self.words.len(),
-                self.tmarks.as_ptr(),
-                self.tmarks.len(),
-                self.bytes.as_ptr(),
-                self.bytes.len(),
-                self.fmarks.as_ptr(),
-                self.fmarks.len(),
-            )
-        };
-        reply.result().map(|yes| yes != 0)
+        archive::ronakvesh_check(self).map(|yes| yes != 0)
     }
 
     /// Makes the lowest free table a root without pages, and answers its number.
@@ -100,19 +74,7 @@ impl Store<'_> {
     /// assert_eq!(store.uvmcreate(), Err(Refusal::TooFewTables));
     /// ```
     pub fn uvmcreate(&mut self) -> Result<u64, Refusal> {
-        let reply = unsafe {
-            archive::ronakvesh_uvmcreate(
-                self.words.as_ptr(),
-                self.words.len(),
-                self.tmarks.as_mut_ptr(),
-                self.tmarks.len(),
-                self.bytes.as_ptr(),
-                self.bytes.len(),
-                self.fmarks.as_ptr(),
-                self.fmarks.len(),
-            )
-        };
-        reply.result()
+        archive::ronakvesh_uvmcreate(self)
     }
 
     /// Maps the pages that `size` bytes from `va` on lie in to the frames from `pa` on, with the permissions and V, in a
@@ -141,24 +103,7 @@ impl Store<'_> {
         size: u64,
         perm: u64,
     ) -> Result<u64, Refusal> {
-        let reply = unsafe {
-            archive::ronakvesh_map(
-                self.words.as_mut_ptr(),
-                self.words.len(),
-                self.tmarks.as_mut_ptr(),
-                self.tmarks.len(),
-                self.bytes.as_ptr(),
-                self.bytes.len(),
-                self.fmarks.as_ptr(),
-                self.fmarks.len(),
-                root,
-                va.0,
-                pa.0,
-                size,
-                perm,
-            )
-        };
-        reply.result()
+        archive::ronakvesh_map(self, root, va.0, pa.0, size, perm)
     }
 
     /// Takes `pages` pages, from that of `va` on, out of a root: their words become 0. With `freeing` their pool frames are
@@ -181,23 +126,7 @@ impl Store<'_> {
     /// # Ok::<(), ronakvesh::Refusal>(())
     /// ```
     pub fn uvm_unmap(&mut self, root: u64, va: VirtualAddress, pages: u64, freeing: bool) -> Result<(), Refusal> {
-        let reply = unsafe {
-            archive::ronakvesh_uvm_unmap(
-                self.words.as_mut_ptr(),
-                self.words.len(),
-                self.tmarks.as_ptr(),
-                self.tmarks.len(),
-                self.bytes.as_ptr(),
-                self.bytes.len(),
-                self.fmarks.as_mut_ptr(),
-                self.fmarks.len(),
-                root,
-                va.0,
-                pages,
-                freeing,
-            )
-        };
-        reply.result().map(|_| ())
+        archive::ronakvesh_uvm_unmap(self, root, va.0, pages, freeing).map(|_| ())
     }
 
     /// Takes U away from the page of `va` in a root. A page that is not mapped stays so.
@@ -218,21 +147,7 @@ impl Store<'_> {
     /// # Ok::<(), ronakvesh::Refusal>(())
     /// ```
     pub fn uvm_clear(&mut self, root: u64, va: VirtualAddress) -> Result<(), Refusal> {
-        let reply = unsafe {
-            archive::ronakvesh_uvm_clear(
-                self.words.as_mut_ptr(),
-                self.words.len(),
-                self.tmarks.as_ptr(),
-                self.tmarks.len(),
-                self.bytes.as_ptr(),
-                self.bytes.len(),
-                self.fmarks.as_ptr(),
-                self.fmarks.len(),
-                root,
-                va.0,
-            )
-        };
-        reply.result().map(|_| ())
+        archive::ronakvesh_uvm_clear(self, root, va.0).map(|_| ())
     }
 
     /// Gives page 0 of a root the lowest free frame, with the flags 31 (V, R, W, X and U): it holds the source, then zeros.
@@ -254,22 +169,7 @@ impl Store<'_> {
     /// # Ok::<(), ronakvesh::Refusal>(())
     /// ```
     pub fn uvm_init(&mut self, root: u64, src: &[u8]) -> Result<(), Refusal> {
-        let reply = unsafe {
-            archive::ronakvesh_uvm_init(
-                self.words.as_mut_ptr(),
-                self.words.len(),
-                self.tmarks.as_mut_ptr(),
-                self.tmarks.len(),
-                self.bytes.as_mut_ptr(),
-                self.bytes.len(),
-                self.fmarks.as_mut_ptr(),
-                self.fmarks.len(),
-                root,
-                src.as_ptr(),
-                src.len(),
-            )
-        };
-        reply.result().map(|_| ())
+        archive::ronakvesh_uvm_init(self, root, src).map(|_| ())
     }
 
     /// Grows what a root maps from page 0 on from `old` to `new` bytes: the pages that `new` bytes take and `old` bytes do
@@ -295,22 +195,7 @@ impl Store<'_> {
     /// # Ok::<(), ronakvesh::Refusal>(())
     /// ```
     pub fn uvm_alloc(&mut self, root: u64, old: u64, new: u64) -> Result<u64, Refusal> {
-        let reply = unsafe {
-            archive::ronakvesh_uvm_alloc(
-                self.words.as_mut_ptr(),
-                self.words.len(),
-                self.tmarks.as_mut_ptr(),
-                self.tmarks.len(),
-                self.bytes.as_mut_ptr(),
-                self.bytes.len(),
-                self.fmarks.as_mut_ptr(),
-                self.fmarks.len(),
-                root,
-                old,
-                new,
-            )
-        };
-        reply.result()
+        archive::ronakvesh_uvm_alloc(self, root, old, new)
     }
 
     /// Shrinks what a root maps from page 0 on from `old` to `new` bytes: the pages that `old` bytes take and `new` bytes
@@ -334,22 +219,7 @@ impl Store<'_> {
     /// # Ok::<(), ronakvesh::Refusal>(())
     /// ```
     pub fn uvm_dealloc(&mut self, root: u64, old: u64, new: u64) -> Result<u64, Refusal> {
-        let reply = unsafe {
-            archive::ronakvesh_uvm_dealloc(
-                self.words.as_mut_ptr(),
-                self.words.len(),
-                self.tmarks.as_ptr(),
-                self.tmarks.len(),
-                self.bytes.as_ptr(),
-                self.bytes.len(),
-                self.fmarks.as_mut_ptr(),
-                self.fmarks.len(),
-                root,
-                old,
-                new,
-            )
-        };
-        reply.result()
+        archive::ronakvesh_uvm_dealloc(self, root, old, new)
     }
 
     /// The address of the frame that the page of `va` resolves to in a root, without the offset.
@@ -368,21 +238,7 @@ impl Store<'_> {
     /// # Ok::<(), ronakvesh::Refusal>(())
     /// ```
     pub fn pgt_translate(&self, root: u64, va: VirtualAddress) -> Result<PhysicalAddress, Refusal> {
-        let reply = unsafe {
-            archive::ronakvesh_pgt_translate(
-                self.words.as_ptr(),
-                self.words.len(),
-                self.tmarks.as_ptr(),
-                self.tmarks.len(),
-                self.bytes.as_ptr(),
-                self.bytes.len(),
-                self.fmarks.as_ptr(),
-                self.fmarks.len(),
-                root,
-                va.0,
-            )
-        };
-        reply.result().map(PhysicalAddress)
+        archive::ronakvesh_pgt_translate(self, root, va.0).map(PhysicalAddress)
     }
 
     /// The number that the satp register takes for a root: mode 8, and the number of the root's frame.
@@ -399,19 +255,6 @@ impl Store<'_> {
     /// # Ok::<(), ronakvesh::Refusal>(())
     /// ```
     pub fn as_satp(&self, root: u64) -> Result<u64, Refusal> {
-        let reply = unsafe {
-            archive::ronakvesh_as_satp(
-                self.words.as_ptr(),
-                self.words.len(),
-                self.tmarks.as_ptr(),
-                self.tmarks.len(),
-                self.bytes.as_ptr(),
-                self.bytes.len(),
-                self.fmarks.as_ptr(),
-                self.fmarks.len(),
-                root,
-            )
-        };
-        reply.result()
+        archive::ronakvesh_as_satp(self, root)
     }
 }
