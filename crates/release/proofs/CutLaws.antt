@@ -2,12 +2,11 @@
 use mathlib.Core.Path.{_≡_, refl, sym, ap, _∙_}
 use mathlib.Core.Logic.{inl, by-cases}
 use mathlib.Core.Bool.{false}
-use mathlib.Core.List.{List}
 use Prim.Native.Nat.{ℕ, zero, suc, _+_, _^_, _<_}
 use native.Mathlib.Nat.{add-zero}
 use native.Mathlib.Decide.{ℕ-discrete}
 use native.Mathlib.Omega.{arith}
-use Rattle.store.specs.Store.{Store, mark}
+use Rattle.store.specs.Store.{Store}
 use Rattle.store.specs.Walk.{resolve}
 use Rattle.store.specs.Outcome.{Judges}
 use Rattle.store.specs.declared.Answer.the-variants.{Refused}
@@ -20,6 +19,7 @@ use Rattle.unmap.proofs.GoneLaws.{pages-gone}
 use Rattle.release.specs.Parts.{UvmFree}
 use Rattle.release.specs.PartsReady.{JudgesParts, RestReady, Cut, JudgesRest}
 use Rattle.release.proofs.FreeReasons.{by-root}
+use Rattle.release.proofs.StillRoot.{still-root}
 
 -- nothing has gone
 pub whole : (s : Store) (root : ℕ) → RootReady s root → Cut s root (2 ^ 26) s
@@ -39,7 +39,7 @@ module _ (s : Store) (root top : ℕ) (t : Store) (c : Cut s root (top + 1) t) (
   pub one-less : Cut s root top u
   unfolding leavePages leaveSlot
   one-less = record {
-    at-root = record { sized = g .sized; formed = g .well-formed; is-root = ap (λ (l : List ℕ). mark l root) (g .tmarks) ∙ c .at-root .is-root };
+    at-root = still-root t root top 1 false u (c .at-root .is-root) g;
     below = λ p l. other p (omega (arith, can .asked .pages)) (omega arith) ∙ c .below p (omega arith);
     gone = λ p h l.
         by-cases (ℕ-discrete p top) (λ e. ap (resolve u root) (e ∙ sym (add-zero top)) ∙ g .gone 0 (omega arith))

@@ -1,5 +1,6 @@
 -- The laws of releasing.
 pub mod FreeReasons
+pub mod StillRoot
 pub mod FreeTreeLaws
 pub mod Truth
 pub mod Wiped

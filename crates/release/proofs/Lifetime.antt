@@ -38,6 +38,7 @@ use Rattle.release.specs.Freed.{Freed}
 use Rattle.release.specs.Parts.{UvmFree}
 use Rattle.release.specs.RootGone.{RootGone}
 use Rattle.release.specs.Lifetime.{Restored}
+use Rattle.release.proofs.StillRoot.{still-root}
 use Rattle.release.proofs.Wiped.{wiped-length}
 use Rattle.release.proofs.Truth.{by-truth}
 use Rattle.release.proofs.FreeReasons.{clear}
@@ -194,7 +195,7 @@ module _ (s : Store) (z : Sized s) (c : WellFormed s) (t : ℕ) (s₁ : Store) (
           (λ l. gone .others t p (ready₂ .is-root) h (λ _ i j. omega arith) ∙ past p h (omega arith))
 
       ready′ : RootReady s′ t
-      ready′ = record { sized = gone .sized; formed = gone .well-formed; is-root = ap (λ (l : List ℕ). mark l t) (gone .tmarks) ∙ ready₂ .is-root }
+      ready′ = still-root s₂ t (0 / 4096) (pagesTo k) true s′ (ready₂ .is-root) gone
 
       -- and then the root can be freed
       free-ready : FreeReady s′ t

@@ -10,7 +10,7 @@ use native.Mathlib.Omega.{arith}
 use lib.ListN.{length}
 use Rattle.address.specs.Field.{bit}
 use Rattle.page_table_entry.specs.Layout.{bitV}
-use Rattle.store.specs.Store.{Store, storeOf, mark}
+use Rattle.store.specs.Store.{Store, storeOf}
 use Rattle.store.specs.Walk.{resolve}
 use Rattle.store.specs.Outcome.{Judges}
 use Rattle.store.specs.declared.Answer.the-variants.{Refused, Done}
@@ -35,6 +35,7 @@ use Rattle.release.specs.FreeTree.{trees, freeTree}
 use Rattle.release.specs.Parts.{UvmFree}
 use Rattle.release.specs.PartsReady.{JudgesParts, RestReady, Cut, JudgesRest}
 use Rattle.release.proofs.FreeReasons.{still-mapped}
+use Rattle.release.proofs.StillRoot.{still-root}
 use Rattle.release.proofs.LeaveSame.{SamePages, ready-same, judges-same}
 use Rattle.release.proofs.FreeLaws.{may-free, done}
 
@@ -46,11 +47,8 @@ module _ (root size : ℕ) (s : Store) (c : CanLeave s root 0 (pagesTo size) tru
   have-gone : Gone s root 0 (pagesTo size) true (left root size s)
   have-gone = pages-gone (pagesTo size) s root 0 true (leavable s root 0 (pagesTo size) true c)
 
-  -- the root is still a root
-  still-root : RootReady (left root size s) root
-  still-root =
-      let g = have-gone in
-      record { sized = g .sized; formed = g .well-formed; is-root = ap (λ (l : List ℕ). mark l root) (g .tmarks) ∙ c .asked .is-root }
+  root-stays : RootReady (left root size s) root
+  root-stays = still-root s root 0 (pagesTo size) true (left root size s) (c .asked .is-root) have-gone
 
   -- the first of the two parts
   first-done : Unmap s root 0 (pagesTo size) true (Done 0) (left root size s)
@@ -149,7 +147,7 @@ module _ (s : Store) (root size top : ℕ) (t : Store) (c : Cut s root top t) wh
             ap (bit bitV) (after (q .0) (q .1) (omega (arith, q .2)) ∙ c .below (q .0) (q .2)) ∙ counted-mapped s root (q .0) (q .3) in
             refused 18 (omega arith)
             (second-refuses root size t 18 can
-            (still-mapped (left root size t) root (still-root root size t can) (q .0, omega (arith, q .2), m) .reason (omega arith), refl))
+            (still-mapped (left root size t) root (root-stays root size t can) (q .0, omega (arith, q .2), m) .reason (omega arith), refl))
 
         none-left : n ≡ 0 → (p : ℕ) × (p < 2 ^ 26) × Mapped (left root size t) root p → ⊥
         none-left e (p, l, m) =
@@ -161,7 +159,7 @@ module _ (s : Store) (root size top : ℕ) (t : Store) (c : Cut s root top t) wh
 
         all-left : n ≡ 0 → P 0
         all-left e = record {
-          ready = λ _. record { leave = can; free = record { at-root = still-root root size t can; unmapped = none-left e } };
+          ready = λ _. record { leave = can; free = record { at-root = root-stays root size t can; unmapped = none-left e } };
           reason = λ h. absurd (h refl);
         }
 

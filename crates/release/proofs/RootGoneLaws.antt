@@ -23,6 +23,7 @@ use Rattle.unmap.proofs.PoolLaws.{leaf-of}
 use Rattle.release.specs.Free.{belongs, tablesOf}
 use Rattle.release.specs.Freed.{Freed}
 use Rattle.release.specs.RootGone.{RootGone}
+use Rattle.release.proofs.StillRoot.{still-root}
 use Rattle.release.proofs.FreedLaws.{of-below, below-of}
 use Rattle.release.proofs.PoolPages.{pool-join, pool-alike, pool-free, none-pool}
 
@@ -73,7 +74,7 @@ bare-gone s root v s′ r none e f = record {
 module _ (s : Store) (root p n : ℕ) (freeing : Bool) (s₁ : Store) (r : RootReady s root) (range : p + n ≤ 2 ^ 26)
     (foreign : freeing ≡ false → (i : ℕ) → i < n → PoolFrame s (resolve s root (p + i)) → ⊥) (g : Gone s root p n freeing s₁) where
   pub root-left : RootReady s₁ root
-  root-left = record { sized = g .sized; formed = g .well-formed; is-root = ap (λ (l : List ℕ). mark l root) (g .tmarks) ∙ r .is-root }
+  root-left = still-root s root p n freeing s₁ (r .is-root) g
 
   lengths : length (s₁ .fmarks) ≡ length (s .fmarks)
   lengths = as-many s s₁ (r .sized) (g .sized) (g .bytes)
