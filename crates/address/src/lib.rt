@@ -12,6 +12,9 @@ ghost use Rattle.address.specs.Answer.{within64, atLeast0, indexAt, numb
 
 pub const PGSIZE: u64 = 4096;
 
+// Addresses of pages that a root maps are below it.
+pub const MAXVA: u64 = 1 << 38;
+
 const PGSHIFT: u64 = 12;
 
 const PGMASKLEN: u64 = 9;

@@ -11,10 +11,3 @@ pub mod StrLaws
 pub mod TextCode
 pub mod TextReasons
 pub mod TextLaws
-pub mod FrameCopy
-pub mod PageBytes
-pub mod ChildPages
-pub mod ChildReasons
-pub mod Spared
-pub mod ChildLoop
-pub mod ChildLaws

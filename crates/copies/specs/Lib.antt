@@ -1,9 +1,7 @@
--- What the contracts of `copy_in`, `copy_out`, `copy_in_str` and `uvm_copy` cite.
+-- What the contracts of `copy_in`, `copy_out` and `copy_in_str` cite.
 pub mod Bytes
 pub mod Needed
 pub mod InOut
 pub mod Moved
 pub mod Str
 pub mod TextRead
-pub mod Child
-pub mod Copied

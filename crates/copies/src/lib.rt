@@ -1,11 +1,9 @@
-// Bytes between the kernel and a process, and a process's pages for its child, after page_table.rs.
+// Bytes between the kernel and a process, after page_table.rs.
 mod bytes;
-mod child;
 mod in_out;
 mod needed;
 mod text;
 
-pub use child::uvm_copy;
 pub use in_out::copy_in;
 pub use in_out::copy_out;
 pub use text::copy_in_str;

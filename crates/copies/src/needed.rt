@@ -1,4 +1,7 @@
 // The judges of the pages that a copy needs: the smallest refusal that applies, or 0. They only read.
+use address::MAXVA;
+use unmap::FRAME_PART;
+use unmap::WINDOW;
 ghost use mathlib.Core.Path.{_≡_};
 ghost use Prim.Native.Nat.{suc, _+_, _-_, _/_, _^_, _≤_, _<_};
 ghost use Rattle.store.specs.Outcome.{Judges};
@@ -6,16 +9,10 @@ ghost use Rattle.store.specs.Store.{storeOf};
 ghost use Rattle.well_formed.specs.Root.{RootReady};
 ghost use Rattle.copies.specs.Needed.{PageReason, PageReady, CopyReason, CopyReady};
 
-pub const MAXVA: u64 = 1 << 38;
-
-// The bits V and U of a word, and those that say that it names a frame of the held window.
+// The bits V and U of a word.
 const V: u64 = 1;
 
 const U: u64 = 16;
-
-pub const FRAME_PART: u64 = 0xFFFF_FFFF_F800_0000;
-
-pub const WINDOW: u64 = 0x4000_0000;
 
 // 6, 11, 12 or 15, or 0, for the page of address a.
 pub fn judge_page(

@@ -1,4 +1,5 @@
 // Sizes in bytes, the pages that they take, and the judge of two of them.
+use address::MAXVA;
 ghost use mathlib.Core.Path.{_≡_};
 ghost use mathlib.Core.Bool.{cond};
 ghost use Prim.Native.Nat.{_^_, _≤_};
@@ -6,8 +7,6 @@ ghost use lib.Dec.{leb, ltb};
 ghost use Rattle.store.specs.Outcome.{Judges};
 ghost use Rattle.store.specs.Store.{storeOf};
 ghost use Rattle.grow.specs.Sizes.{pagesTo, SizeReason, SizeReady};
-
-const MAXVA: u64 = 1 << 38;
 
 // 1, 2, 3 or 6, or 0.
 pub fn judge_sizes(

@@ -17,7 +17,7 @@ use Rattle.grow.specs.Grow.{Grow}
 use Rattle.grow.specs.Shrink.{Shrink}
 use Rattle.copies.specs.InOut.{In, Out}
 use Rattle.copies.specs.Str.{Str}
-use Rattle.copies.specs.Child.{Child}
+use Rattle.child.specs.Child.{Child}
 use Rattle.copies.specs.declared.StrAnswer.{StrAnswer}
 use Rattle.release.specs.Free.{Free}
 use Rattle.release.specs.Parts.{UvmFree, SharedFree, ProcFree}

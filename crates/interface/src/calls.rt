@@ -257,7 +257,7 @@ pub extern "C" fn ronakvesh_uvm_copy(
         (storeOf (now (words .entry)) (now (tmarks .entry)) (now (bytes .entry)) (now (fmarks .entry))) parent child size r
         (storeOf (now (words .exit)) (now (tmarks .exit)) (now (bytes .exit)) (now (fmarks .exit))) ⌝ }
 {
-    answer_reply(copies::uvm_copy(words, tmarks, bytes, fmarks, parent, child, size))
+    answer_reply(child::uvm_copy(words, tmarks, bytes, fmarks, parent, child, size))
 }
 
 #[no_mangle]

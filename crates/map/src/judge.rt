@@ -1,12 +1,11 @@
 // The judge of map: the smallest refusal that applies, or 0. It only reads.
+use address::MAXVA;
 use address::PhysicalAddress;
 use address::VirtualAddress;
 ghost use Rattle.store.specs.Outcome.{Judges};
 ghost use Rattle.store.specs.Store.{storeOf};
 ghost use Rattle.map.specs.Numbers.{NumberReason, NumbersReady};
 ghost use Rattle.map.specs.Reasons.{MapReason, MapReady};
-
-const MAXVA: u64 = 1 << 38;
 
 const PAGES: u64 = 1 << 26;
 

@@ -1,6 +1,7 @@
 // The calls made of parts, after `uvm_free`, `proc_free_pagetable` and `free_shared_user_pagetable` of page_table.rs: all parts are
 // judged, each on what the parts before it would leave, and then all are done.
 use super::tree;
+use address::MAXVA;
 use address::VirtualAddress;
 use store::Answer;
 ghost use mathlib.Core.Path.{_≡_};
@@ -12,8 +13,6 @@ ghost use Rattle.well_formed.specs.Root.{RootReady};
 ghost use Rattle.unmap.specs.Leave.{leavePages, CanLeave};
 ghost use Rattle.release.specs.Parts.{UvmFree, SharedFree, ProcFree};
 ghost use Rattle.release.specs.PartsReady.{JudgesParts, RestReady, SharedReady, ProcReady, JudgesRest};
-
-const MAXVA: u64 = 1 << 38;
 
 const PAGES: usize = 1 << 26;
 

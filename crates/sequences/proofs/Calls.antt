@@ -33,13 +33,13 @@ use Rattle.grow.proofs.GrowLaws.{one-grow}
 use Rattle.grow.proofs.ShrinkLaws.{one-shrink}
 use Rattle.copies.specs.InOut.{In, Out}
 use Rattle.copies.specs.Str.{strSaid, Str}
-use Rattle.copies.specs.Child.{Child}
+use Rattle.child.specs.Child.{Child}
 use Rattle.copies.specs.declared.StrAnswer.{StrAnswer}
 use Rattle.copies.specs.declared.StrAnswer.the-variants as str
 use Rattle.copies.proofs.InOutLaws.{one-in, one-out}
 use Rattle.copies.proofs.MovedLaws.{in-moved}
 use Rattle.copies.proofs.TextLaws.{one-str, text-read}
-use Rattle.copies.proofs.ChildLaws.{one-child}
+use Rattle.child.proofs.ChildLaws.{one-child}
 use Rattle.release.specs.Free.{Free}
 use Rattle.release.specs.Parts.{UvmFree, SharedFree, ProcFree}
 use Rattle.release.proofs.FreeLaws.{one-free}

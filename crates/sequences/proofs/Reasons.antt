@@ -24,7 +24,7 @@ use Rattle.grow.specs.Grow as grow
 use Rattle.grow.specs.Shrink as shrink
 use Rattle.copies.specs.Needed as needed
 use Rattle.copies.specs.Str as str
-use Rattle.copies.specs.Child as child
+use Rattle.child.specs.Child as child
 use Rattle.release.specs.Free as free
 use Rattle.release.specs.Parts.{Then, UvmFree, UnmapOne, trampoline, trapframe, SharedFree, ProcFree}
 use Rattle.sequences.specs.Numbers.{afterTwo, afterRoot, among, Listed}

@@ -37,9 +37,9 @@ use Rattle.grow.proofs.GrowLaws.{grow-grown}
 use Rattle.grow.proofs.ShrinkLaws.{shrink-gone}
 use Rattle.copies.specs.Needed as needed
 use Rattle.copies.specs.InOut.{Out}
-use Rattle.copies.specs.Child as child
+use Rattle.child.specs.Child as child
 use Rattle.copies.proofs.MovedLaws.{out-moved}
-use Rattle.copies.proofs.ChildLaws.{child-grown}
+use Rattle.child.proofs.ChildLaws.{child-grown}
 use Rattle.sequences.proofs.Reasons.{map-root, unmap-root, clear-root}
 use Rattle.sequences.proofs.Tables.{SameTables, enter-tables, fresh-table, fresh-tables, leave-tables}
 use Rattle.sequences.proofs.Left.{Left, KeptSound, ready-at, left-at}

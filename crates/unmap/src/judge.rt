@@ -10,9 +10,9 @@ ghost use Rattle.unmap.specs.Unmap.{TooHigh, UnmapReason, UnmapReady};
 const PAGES: u64 = 1 << 26;
 
 // A word whose bits from 27 on are 8 names a frame of the held window.
-const FRAME_PART: u64 = 0xFFFF_FFFF_F800_0000;
+pub const FRAME_PART: u64 = 0xFFFF_FFFF_F800_0000;
 
-const WINDOW: u64 = 0x4000_0000;
+pub const WINDOW: u64 = 0x4000_0000;
 
 // Whether, without freeing, one of the pages from first up to end has a pool frame.
 fn meets_pool(

@@ -1,14 +1,13 @@
 // The calls themselves: judged whole, then done.
 use super::judge;
 use super::leave;
+use address::MAXVA;
 use address::VirtualAddress;
 use page_table_entry::PageTableEntry;
 use store::Answer;
 ghost use Rattle.store.specs.Store.{storeOf};
 ghost use Rattle.unmap.specs.Unmap.{Unmap};
 ghost use Rattle.unmap.specs.Clear.{Clear};
-
-const MAXVA: u64 = 1 << 38;
 
 // Takes n pages, from that of va on, out of a root. With freeing their pool frames are given back; without it there may be none.
 pub fn uvm_unmap(

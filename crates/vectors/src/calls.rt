@@ -143,7 +143,7 @@ fn on_bytes(
         let parent = rows::argument(row, 0);
         let child = rows::argument(row, 1);
         let size = rows::argument(row, 2);
-        return copies::uvm_copy(words, tmarks, bytes, fmarks, parent, child, size);
+        return child::uvm_copy(words, tmarks, bytes, fmarks, parent, child, size);
     }
     released(row, words, tmarks, bytes, fmarks)
 }

@@ -18,6 +18,7 @@ use Rattle.store.proofs.Tree.{TreeOf, tree-of, LeafIn, two, top, zero-or}
 use Rattle.store.proofs.Walk.{depth, low, page-of}
 use Rattle.walk.specs.Mapped.{Mapped}
 use Rattle.walk.specs.Sv39.{Walked, none, leaf, fault, at, Kind, entry, below, judged, walk, canonical, mode, root, finish, translate, memory, satpOf, pageOf, usable, ends, granted, Differs}
+use Rattle.walk.proofs.Pages.{word-shape}
 use Rattle.walk.proofs.Memory.{page-low, top-page, there, points, reads-top, reads-middle, reads-last}
 use Rattle.walk.proofs.Judged.{judged-zero, judged-pointer, judged-last, finishes, parity, either, ends-none, ends-leaf, let-through, granted-parts, granted-of, differs-denied, some-kind}
 
@@ -54,23 +55,15 @@ module _ (s : Store) (z : Sized s) (c : WellFormed s) (r : ℕ) (rr : mark (s .t
       let e : slot (slotWord (s .words)) r (suc d) x ≡ 0 = omega arith in
       ap (slotWord (s .words)) e ∙ omega (arith, tr .none)
 
-  -- a level-0 word that is not 0 has V, and its bits 54 to 63 are clear
-  pub word-shape : (p : ℕ) → top 2 p < 512 → 0 < resolve s r p → (resolve s r p % 2 ≡ 1) × (resolve s r p < 2 ^ 54)
-  unfolding entryAt
-  word-shape p h l =
-      let m : ℕ = slot (slotWord (s .words)) r 2 p in
-      let q : LeafIn (mark (s .fmarks)) m (slotWord (s .words) m) = tr .leaf m l (omega (arith, depth tr r 2 p rr h (omega arith) (two tr m l))) in
-      (q .valid, q .small)
-
   low-shape : (va : ℕ) → va < 2 ^ 38 → 0 < resolve s r (va / 4096) → (resolve s r (va / 4096) % 2 ≡ 1) × (resolve s r (va / 4096) < 2 ^ 54)
   unfolding top
-  low-shape va h = word-shape (va / 4096) (omega arith)
+  low-shape va h = word-shape s z c r rr (va / 4096) (omega arith)
 
   -- the walk, level by level
   from-last : (va : ℕ) → 0 < entryAt s r 1 (pageOf va / 512) → walk (memory s other) va 0 (below (entryAt s r 1 (pageOf va / 512))) ≡ ends (resolve s r (pageOf va))
   from-last va h =
       walk-end (memory s other) va (below (entryAt s r 1 (pageOf va / 512))) (resolve s r (pageOf va)) (reads-last s z c r rr other va h)
-      ∙ judged-last (resolve s r (pageOf va)) (word-shape (pageOf va) (top-page va))
+      ∙ judged-last (resolve s r (pageOf va)) (word-shape s z c r rr (pageOf va) (top-page va))
 
   -- an entry e of level 2 or 1, and below it what the rest of the walk makes of it
   level-down : (i d x : ℕ) (n w : Walked) → d ≤ 1 → top d x < 512

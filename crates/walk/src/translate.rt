@@ -1,13 +1,12 @@
 // What a page translates to, and the number of a root for the satp register.
 use super::steps;
+use address::MAXVA;
 use address::VirtualAddress;
 use page_table_entry::PageTableEntry;
 use store::Answer;
 ghost use Rattle.store.specs.Store.{storeOf};
 ghost use Rattle.walk.specs.Translate.{Translate};
 ghost use Rattle.walk.specs.Satp.{Satp};
-
-const MAXVA: u64 = 1 << 38;
 
 // The address of the frame that the page of va resolves to, which must have U.
 pub fn pgt_translate(

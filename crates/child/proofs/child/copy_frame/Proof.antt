@@ -1,12 +1,12 @@
--- `copies::child::copy_frame` meets its contract. The invariant: the first i bytes have gone over. Assumes nothing.
+-- `child::child::copy_frame` meets its contract. The invariant: the first i bytes have gone over. Assumes nothing.
 use Prim.Native.Nat.{_-_, _*_, _≤_}
 use borrow.Author.Needs.{needs}
 use lib.ListN.{length, drop}
 use lib.Seq.{paste, paste-zero}
 use mathlib.Core.Path.{_≡_, _∙_}
-use Rattle.copies.proofs.FrameCopy.{copy-more, copied}
-use Rattle.copies.proofs.child.copy_frame.Statement.{statement}
-use Rattle.copies.proofs.child.copy_frame.Tie as tie
+use Rattle.child.proofs.FrameCopy.{copy-more, copied}
+use Rattle.child.proofs.child.copy_frame.Statement.{statement}
+use Rattle.child.proofs.child.copy_frame.Tie as tie
 
 abbrev Inv-loop : tie.InvT-loop
 Inv-loop bytes₀ g f from to i₀ bytes i = (length bytes ≡ length bytes₀) × (i ≤ 4096) × (bytes ≡ paste bytes₀ (4096 * f) (drop (4096 * g) bytes₀) i)

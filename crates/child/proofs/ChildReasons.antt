@@ -12,8 +12,8 @@ use Rattle.walk.proofs.Calls.{root-in}
 use Rattle.unmap.specs.Leave.{Asked}
 use Rattle.grow.specs.Fresh.{FreshReason, taken, no-frames, no-tables}
 use Rattle.grow.proofs.FreshReasons.{fresh-clear}
-use Rattle.copies.specs.Child.{ChildReason, at-parent, at-child, same, too-large, unaligned, unmapped, foreign, fresh, ChildReady}
-use Rattle.copies.proofs.ChildPages.{PageReason, page-from, PagesReady}
+use Rattle.child.specs.Child.{ChildReason, at-parent, at-child, same, too-large, unaligned, unmapped, foreign, fresh, ChildReady}
+use Rattle.child.proofs.ChildPages.{PageReason, page-from, PagesReady}
 
 module _ (s : Store) (parent child size : ℕ) where
   abbrev R : ℕ → Type 0

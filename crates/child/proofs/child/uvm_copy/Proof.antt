@@ -1,9 +1,9 @@
--- `copies::child::uvm_copy` meets its contract. Assumes nothing.
+-- `child::child::uvm_copy` meets its contract. Assumes nothing.
 use borrow.Author.Needs.{needs}
-use Rattle.copies.proofs.ChildLaws.{refuse, done}
+use Rattle.child.proofs.ChildLaws.{refuse, done}
 use Rattle.store.specs.Store.{storeOf}
-use Rattle.copies.proofs.child.uvm_copy.Statement.{statement}
-use Rattle.copies.proofs.child.uvm_copy.Tie as tie
+use Rattle.child.proofs.child.uvm_copy.Statement.{statement}
+use Rattle.child.proofs.child.uvm_copy.Tie as tie
 
 judge-child-requires : tie.Need-judge-child-requires
 judge-child-requires c κs = search needs

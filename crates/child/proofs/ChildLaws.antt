@@ -22,16 +22,16 @@ use Rattle.unmap.proofs.PoolLaws.{pool-counted, counted-pool}
 use Rattle.grow.specs.Fresh.{freshPages}
 use Rattle.grow.specs.Grown.{FreshAt, Grown}
 use Rattle.grow.proofs.GrownLaws.{pages-grown, ready-where}
 use Rattle.copies.specs.Bytes.{byteAt}
 use Rattle.copies.specs.InOut.{Out}
-use Rattle.copies.specs.Child.{pageFlags, pageBytes, ChildReason, same, too-large, unaligned, unmapped, foreign, fresh, ChildReady, ChildDone, Child}
-use Rattle.copies.specs.Copied.{OwnFrame, Copied}
+use Rattle.child.specs.Child.{pageFlags, pageBytes, ChildReason, same, too-large, unaligned, unmapped, foreign, fresh, ChildReady, ChildDone, Child}
+use Rattle.child.specs.Copied.{OwnFrame, Copied}
 use Rattle.copies.proofs.BytesLaws.{bytes-get}
 use Rattle.copies.proofs.MovedLaws.{out-moved}
-use Rattle.copies.proofs.PageBytes.{page-byte}
+use Rattle.child.proofs.PageBytes.{page-byte}
 use Rattle.copies.proofs.OneOwner.{one-page}
-use Rattle.copies.proofs.ChildReasons.{clear}
-use Rattle.copies.proofs.ChildLoop.{child-may, fillable, in-use}
+use Rattle.child.proofs.ChildReasons.{clear}
+use Rattle.child.proofs.ChildLoop.{child-may, fillable, in-use}
 
 module _ (s : Store) (parent child size : ℕ) where
   pub refuse : (k : ℕ) → Judges (ChildReason s parent child size) (ChildReady s parent child size) k → (k ≡ 0 → ⊥) → Child s parent child size (Refused k) s

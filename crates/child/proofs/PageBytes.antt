@@ -8,9 +8,9 @@ use lib.Seq.{length-take-le, getD-take, getD-drop, ext-getD}
 use Rattle.store.specs.Store.{Store, frameNo, poolNo}
 use Rattle.store.specs.Walk.{resolve}
 use Rattle.grow.specs.Grown.{frameByte}
 use Rattle.copies.specs.Bytes.{byteAt}
-use Rattle.copies.specs.Child.{pageBytes}
+use Rattle.child.specs.Child.{pageBytes}
 use Rattle.copies.proofs.BytesLaws.{bytes-length, bytes-get}
 
 module _ (s : Store) (r p f : ℕ) (e : frameNo (resolve s r p) ≡ poolNo f) where
   -- byte k of page p is byte k of its frame

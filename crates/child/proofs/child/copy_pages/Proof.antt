@@ -1,15 +1,15 @@
--- `copies::child::copy_pages` meets its contract. The invariant: the pages before i have gone over, and the parent's are as they were. Assumes nothing.
+-- `child::child::copy_pages` meets its contract. The invariant: the pages before i have gone over, and the parent's are as they were. Assumes nothing.
 use Prim.Native.Nat.{_-_, _/_}
 use borrow.Author.Needs.{needs}
 use lib.ListN.{length}
 use mathlib.Core.Path.{_≡_}
 use native.Mathlib.Omega.{arith}
-use Rattle.copies.proofs.ChildLoop.{Copying, start, may-walk, fits, flags-fit, in-pool, frame-small, may-copy, after}
-use Rattle.copies.specs.Child.{pageFlags, pageBytes}
+use Rattle.child.proofs.ChildLoop.{Copying, start, may-walk, fits, flags-fit, in-pool, frame-small, may-copy, after}
+use Rattle.child.specs.Child.{pageFlags, pageBytes}
 use Rattle.grow.proofs.GrowLoop.{done}
 use Rattle.store.specs.Store.{storeOf}
-use Rattle.copies.proofs.child.copy_pages.Statement.{statement}
-use Rattle.copies.proofs.child.copy_pages.Tie as tie
+use Rattle.child.proofs.child.copy_pages.Statement.{statement}
+use Rattle.child.proofs.child.copy_pages.Tie as tie
 
 abbrev Inv-loop : tie.InvT-loop
 Inv-loop words₀ tmarks₀ bytes₀ fmarks₀ parent child size n from₀ i₀ words tmarks bytes fmarks from i =

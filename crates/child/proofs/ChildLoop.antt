@@ -21,11 +21,11 @@ use Rattle.grow.specs.Grown.{FrameKept}
 use Rattle.grow.proofs.FreshPages.{Growable, growable, first-fresh}
 use Rattle.grow.proofs.GrownLaws.{Fillable}
 use Rattle.grow.proofs.GrowLoop as loop
-use Rattle.copies.specs.Child.{pageFlags, pageBytes, ChildReady}
+use Rattle.child.specs.Child.{pageFlags, pageBytes, ChildReady}
 use Rattle.copies.proofs.BytesLaws.{bytes-length}
-use Rattle.copies.proofs.PageBytes.{page-bytes}
+use Rattle.child.proofs.PageBytes.{page-bytes}
 use Rattle.copies.proofs.OneOwner.{frame-mark}
-use Rattle.copies.proofs.Spared.{Spared, spared, spared-more}
+use Rattle.child.proofs.Spared.{Spared, spared, spared-more}
 
 -- i pages have gone over, s is the store so far, and it has no free frame below a
 pub record Copying (s₀ : Store) (parent child size : ℕ) (s : Store) (i a : ℕ) : Type 0 where

@@ -1,6 +1,8 @@
 // A process's pages for its child, after `uvm_copy` of page_table.rs: judged whole, then done.
-use super::needed;
+use address::MAXVA;
 use store::Answer;
+use unmap::FRAME_PART;
+use unmap::WINDOW;
 ghost use mathlib.Core.Path.{_≡_};
 ghost use Prim.Native.Nat.{_+_, _*_, _/_, _≤_};
 ghost use lib.ListN.{length, take, drop};
@@ -8,7 +10,7 @@ ghost use Rattle.store.specs.Outcome.{Judges};
 ghost use Rattle.store.specs.Store.{storeOf};
 ghost use Rattle.grow.specs.Fill.{framed};
 ghost use Rattle.grow.specs.Fresh.{freshPages};
-ghost use Rattle.copies.specs.Child.{pageFlags, pageBytes, ChildReason, ChildReady, Child};
+ghost use Rattle.child.specs.Child.{pageFlags, pageBytes, ChildReason, ChildReady, Child};
 
 fn judge_child(
     words: &[u64],
@@ -34,7 +36,7 @@ fn judge_child(
     if child == parent {
         return 4;
     }
-    if size > needed::MAXVA {
+    if size > MAXVA {
         return 6;
     }
     if size % 4096 != 0 {
@@ -47,16 +49,7 @@ fn judge_child(
     if walk::count_pages(words, child as usize, 0, n, 1, 1) != 0 {
         return 14;
     }
-    if walk::count_pages(
-        words,
-        parent as usize,
-        0,
-        n,
-        needed::FRAME_PART,
-        needed::WINDOW,
-    )
-        < n
-    {
+    if walk::count_pages(words, parent as usize, 0, n, FRAME_PART, WINDOW) < n {
         return 15;
     }
     grow::judge_fresh(words, tmarks, bytes, fmarks, child as usize, 0, n)

@@ -1,13 +1,13 @@
--- `copies::child::judge_child` meets its contract. Assumes nothing.
+-- `child::child::judge_child` meets its contract. Assumes nothing.
 use Prim.Native.Nat.{_/_}
 use borrow.Author.Needs.{needs}
 use mathlib.Core.Path.{sym, _∙_}
 use native.Mathlib.Omega.{arith}
-use Rattle.copies.proofs.ChildPages.{no-11, no-14, no-15, by-fresh}
-use Rattle.copies.proofs.ChildReasons.{by-parent, no-3, no-4, no-6, no-7, may-count, asked, by-pages}
+use Rattle.child.proofs.ChildPages.{no-11, no-14, no-15, by-fresh}
+use Rattle.child.proofs.ChildReasons.{by-parent, no-3, no-4, no-6, no-7, may-count, asked, by-pages}
 use Rattle.store.specs.Store.{storeOf}
-use Rattle.copies.proofs.child.judge_child.Statement.{statement}
-use Rattle.copies.proofs.child.judge_child.Tie as tie
+use Rattle.child.proofs.child.judge_child.Statement.{statement}
+use Rattle.child.proofs.child.judge_child.Tie as tie
 
 judge-root-requires : tie.Need-judge-root-requires
 judge-root-requires c κs = search needs
