@@ -19,9 +19,9 @@ use Rattle.store.proofs.Tree.{tree-of}
 use Rattle.well_formed.specs.Root.{RootReady}
 use Rattle.walk.specs.Missing.{entryIn}
 use Rattle.unmap.proofs.PoolLaws.{pool-counted, counted-pool}
-use Rattle.grow.specs.Fresh.{freshPages}
-use Rattle.grow.specs.Grown.{FreshAt, Grown}
-use Rattle.grow.proofs.GrownLaws.{pages-grown, ready-where}
+use Rattle.fresh.specs.Fresh.{freshPages}
+use Rattle.fresh.specs.Grown.{FreshAt, Grown}
+use Rattle.fresh.proofs.GrownLaws.{pages-grown, ready-where}
 use Rattle.copies.specs.Bytes.{byteAt}
 use Rattle.copies.specs.InOut.{Out}
 use Rattle.child.specs.Child.{pageFlags, pageBytes, ChildReason, same, too-large, unaligned, unmapped, foreign, fresh, ChildReady, ChildDone, Child}

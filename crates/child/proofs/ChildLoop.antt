@@ -13,14 +13,14 @@ use Rattle.store.specs.Walk.{slotWord, slot, entryAt, resolve}
 use Rattle.store.proofs.Scans.{in-range}
 use Rattle.store.proofs.Tree.{tree-of}
 use Rattle.walk.proofs.Calls.{root-in}
-use Rattle.map.proofs.Hang.{lowest-free}
+use Rattle.enter.proofs.Hang.{lowest-free}
 use Rattle.unmap.specs.Leave.{PoolFrame}
-use Rattle.grow.specs.Fill.{framed}
-use Rattle.grow.specs.Fresh.{freshPage, FrameFits, FrameEntered}
-use Rattle.grow.specs.Grown.{FrameKept}
-use Rattle.grow.proofs.FreshPages.{Growable, growable, first-fresh}
-use Rattle.grow.proofs.GrownLaws.{Fillable}
-use Rattle.grow.proofs.GrowLoop as loop
+use Rattle.fresh.specs.Fill.{framed}
+use Rattle.fresh.specs.Fresh.{freshPage, FrameFits, FrameEntered}
+use Rattle.fresh.specs.Grown.{FrameKept}
+use Rattle.fresh.proofs.FreshPages.{Growable, growable, first-fresh}
+use Rattle.fresh.proofs.GrownLaws.{Fillable}
+use Rattle.fresh.proofs.GrowLoop as loop
 use Rattle.child.specs.Child.{pageFlags, pageBytes, ChildReady}
 use Rattle.copies.proofs.BytesLaws.{bytes-length}
 use Rattle.child.proofs.PageBytes.{page-bytes}

@@ -16,7 +16,7 @@ use Rattle.walk.proofs.Counts.{one-has, one-lacks, none-has, all-have}
 use Rattle.walk.proofs.Pages.{counted-mapped, mapped-counted}
 use Rattle.unmap.specs.Leave.{PoolFrame}
 use Rattle.unmap.proofs.PoolLaws.{pool-counted, counted-pool}
-use Rattle.grow.specs.Fresh.{FreshReason, taken, no-frames, no-tables, FreshReady}
+use Rattle.fresh.specs.Fresh.{FreshReason, taken, no-frames, no-tables, FreshReady}
 
 module _ (s : Store) (parent child n : ℕ) where
   -- 11 and 15 of the parent, and 14 of the child

@@ -10,8 +10,8 @@ use Rattle.well_formed.specs.Root.{RootReason, sizes, unformed, no-root, RootRe
 use Rattle.well_formed.proofs.RootReasons.{root-upto, root-clear}
 use Rattle.walk.proofs.Calls.{root-in}
 use Rattle.unmap.specs.Leave.{Asked}
-use Rattle.grow.specs.Fresh.{FreshReason, taken, no-frames, no-tables}
-use Rattle.grow.proofs.FreshReasons.{fresh-clear}
+use Rattle.fresh.specs.Fresh.{FreshReason, taken, no-frames, no-tables}
+use Rattle.fresh.proofs.FreshReasons.{fresh-clear}
 use Rattle.child.specs.Child.{ChildReason, at-parent, at-child, same, too-large, unaligned, unmapped, foreign, fresh, ChildReady}
 use Rattle.child.proofs.ChildPages.{PageReason, page-from, PagesReady}
 

@@ -8,7 +8,7 @@ use native.Mathlib.Numerals.{add-one}
 use native.Mathlib.Omega.{arith}
 use lib.ListN.{length, getD, set, take, drop, length-drop, List·getD-append}
 use lib.Seq.{paste, paste-suc, length-paste-head, length-take-le, getD-append-add, getD-take, getD-drop, drop-drop}
-use Rattle.grow.specs.Fill.{framed}
+use Rattle.fresh.specs.Fill.{framed}
 
 module _ (bs : List ℕ) (g f : ℕ) (o : g ≡ f → ⊥) (hg : 4096 * g + 4096 ≤ length bs) (hf : 4096 * f + 4096 ≤ length bs) where
   -- the bytes from those of frame g on

@@ -7,7 +7,7 @@ use lib.ListN.{length, getD, take, drop, length-drop}
 use lib.Seq.{length-take-le, getD-take, getD-drop, ext-getD}
 use Rattle.store.specs.Store.{Store, frameNo, poolNo}
 use Rattle.store.specs.Walk.{resolve}
-use Rattle.grow.specs.Grown.{frameByte}
+use Rattle.fresh.specs.Grown.{frameByte}
 use Rattle.copies.specs.Bytes.{byteAt}
 use Rattle.child.specs.Child.{pageBytes}
 use Rattle.copies.proofs.BytesLaws.{bytes-length, bytes-get}

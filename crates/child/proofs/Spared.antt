@@ -7,10 +7,10 @@ use lib.ListN.{length}
 use Rattle.store.specs.Store.{Store, Sized, mark}
 use Rattle.store.specs.Walk.{resolve}
 use Rattle.store.proofs.Tree.{top}
-use Rattle.map.proofs.EnterPage.{part}
-use Rattle.grow.specs.Grown.{FrameKept}
-use Rattle.grow.proofs.FreshPage.{PageFresh}
-use Rattle.grow.proofs.GrownLaws.{other-frame}
+use Rattle.enter.proofs.EnterPage.{part}
+use Rattle.fresh.specs.Grown.{FrameKept}
+use Rattle.fresh.proofs.FreshPage.{PageFresh}
+use Rattle.fresh.proofs.GrownLaws.{other-frame}
 
 pub record Spared (s₀ : Store) (r : ℕ) (s : Store) : Type 0 where
   pub root : mark (s .tmarks) r ≡ 1

@@ -10,7 +10,7 @@ use Rattle.store.specs.declared.Answer.{Answer}
 use Rattle.well_formed.specs.Root.{RootReason, RootReady}
 use Rattle.walk.specs.Mapped.{Mapped}
 use Rattle.unmap.specs.Leave.{PoolFrame}
-use Rattle.grow.specs.Fresh.{FreshReason, FreshReady, freshPages}
+use Rattle.fresh.specs.Fresh.{FreshReason, FreshReady, freshPages}
 use Rattle.copies.specs.Bytes.{bytesAt}
 
 -- the pages of size bytes from 0 on, of the parent and of the child: 1, 2, 3 for either root; 4, 6, 7; 11 and 15 speak of the parent, 14 of the child, and 16 and 17 of what the child needs

@@ -8,8 +8,8 @@ ghost use Prim.Native.Nat.{_+_, _*_, _/_, _≤_};
 ghost use lib.ListN.{length, take, drop};
 ghost use Rattle.store.specs.Outcome.{Judges};
 ghost use Rattle.store.specs.Store.{storeOf};
-ghost use Rattle.grow.specs.Fill.{framed};
-ghost use Rattle.grow.specs.Fresh.{freshPages};
+ghost use Rattle.fresh.specs.Fill.{framed};
+ghost use Rattle.fresh.specs.Fresh.{freshPages};
 ghost use Rattle.child.specs.Child.{pageFlags, pageBytes, ChildReason, ChildReady, Child};
 
 fn judge_child(
@@ -52,7 +52,7 @@ fn judge_child(
     if walk::count_pages(words, parent as usize, 0, n, FRAME_PART, WINDOW) < n {
         return 15;
     }
-    grow::judge_fresh(words, tmarks, bytes, fmarks, child as usize, 0, n)
+    fresh::judge_fresh(words, tmarks, bytes, fmarks, child as usize, 0, n)
 }
 
 // The bytes of frame g go to frame f, which is another.
@@ -89,7 +89,7 @@ fn copy_pages(
     let mut i = 0;
     while i < n {
         let e = walk::slot_word(words, walk::slot_of(words, parent, i));
-        let f = grow::enter_frame(words, tmarks, fmarks, child, i, e & 0x3FF, from);
+        let f = fresh::enter_frame(words, tmarks, fmarks, child, i, e & 0x3FF, from);
         copy_frame(bytes, (e / 1024) as usize - 0x11_0000, f);
         from = f + 1;
         i += 1;

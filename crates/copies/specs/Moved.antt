@@ -6,7 +6,7 @@ use lib.ListN.{length, getD}
 use Rattle.store.specs.Store.{Store, Sized, mark}
 use Rattle.store.specs.WellFormed.{WellFormed}
 use Rattle.store.specs.Walk.{resolve}
-use Rattle.map.specs.Demand3.{Other}
+use Rattle.walk.specs.Mapped.{Other}
 use Rattle.unmap.specs.Leave.{PoolFrame}
 use Rattle.copies.specs.Bytes.{placeAt, byteAt}
 

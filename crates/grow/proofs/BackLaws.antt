@@ -19,14 +19,14 @@ use Rattle.store.specs.declared.Answer.the-variants.{Refused, Done}
 use Rattle.unmap.specs.Leave.{PoolFrame, Asked}
 use Rattle.unmap.specs.Gone.{poolPages, Gone}
 use Rattle.unmap.proofs.LeavePage.{pool-one}
-use Rattle.grow.specs.Sizes.{pagesTo, too-large}
+use Rattle.shrink.specs.Sizes.{pagesTo, too-large}
 use Rattle.grow.specs.Grow.{gained, sizes, pages, zeroed, Grow}
-use Rattle.grow.specs.Shrink.{ShrinkReason, ShrinkReady, Shrink}
-use Rattle.grow.specs.Grown.{Grown, Back}
-use Rattle.grow.proofs.ShrinkReasons.{clear}
-use Rattle.grow.proofs.ShrinkLaws.{shrink-gone}
-use Rattle.grow.proofs.FreshPages.{Growable}
-use Rattle.grow.proofs.GrownLaws.{growable-where}
+use Rattle.shrink.specs.Shrink.{ShrinkReason, ShrinkReady, Shrink}
+use Rattle.fresh.specs.Grown.{Grown, Back}
+use Rattle.shrink.proofs.ShrinkReasons.{clear}
+use Rattle.shrink.proofs.ShrinkLaws.{shrink-gone}
+use Rattle.fresh.proofs.FreshPages.{Growable}
+use Rattle.fresh.proofs.GrownLaws.{growable-where}
 use Rattle.grow.proofs.GrowLaws.{grow-grown}
 
 -- where each of the pages has a pool frame, they have as many as they are

@@ -8,10 +8,10 @@ use lib.ListN.{length, replicate, length-replicate}
 use borrow.Rule.Slice.PartMut.{midOf, putMid}
 use Rattle.store.specs.Store.{Store, storeOf}
 use Rattle.store.specs.Count.{lowest}
-use Rattle.grow.specs.Fresh.{FrameEntered}
+use Rattle.fresh.specs.Fresh.{FrameEntered}
 use Rattle.grow.specs.Grow.{zeroed}
-use Rattle.grow.proofs.FrameCode.{put-frame, frame-length}
-use Rattle.grow.proofs.GrowLoop.{Growing, there, next}
+use Rattle.fresh.proofs.FrameCode.{put-frame, frame-length}
+use Rattle.fresh.proofs.GrowLoop.{Growing, there, next}
 
 -- i of n pages have their frames, and the store so far has the words ws, the marks ms and fs and the bytes bs
 module _ (s₀ : Store) (r p n : ℕ) (ws ms bs fs : List ℕ) (i a : ℕ) (g : Growing s₀ r p n (λ _. 31) (λ _. zeroed) (storeOf ws ms bs fs) i a) (h : i < n) where

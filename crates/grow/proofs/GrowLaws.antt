@@ -11,12 +11,12 @@ use Rattle.store.specs.declared.Answer.{Answer}
 use Rattle.store.specs.declared.Answer.the-variants.{Refused, Done}
 use Rattle.store.proofs.Outcomes.{one-outcome}
 use Rattle.unmap.specs.Leave.{Asked}
-use Rattle.grow.specs.Sizes.{pagesTo}
-use Rattle.grow.specs.Fresh.{freshPages, CanFresh}
+use Rattle.shrink.specs.Sizes.{pagesTo}
+use Rattle.fresh.specs.Fresh.{freshPages, CanFresh}
 use Rattle.grow.specs.Grow.{gained, GrowReason, pages, GrowReady, zeroed, GrowDone, Grow}
-use Rattle.grow.specs.Grown.{Grown}
+use Rattle.fresh.specs.Grown.{Grown}
 use Rattle.grow.proofs.GrowReasons.{asked, clear}
-use Rattle.grow.proofs.GrownLaws.{pages-grown, growable-where}
+use Rattle.fresh.proofs.GrownLaws.{pages-grown, growable-where}
 
 module _ (s : Store) (root old new : ℕ) where
   pub refuse : (k : ℕ) → Judges (GrowReason s root old new) (GrowReady s root old new) k → (k ≡ 0 → ⊥) → Grow s root old new (Refused k) s

@@ -7,11 +7,11 @@ use Rattle.store.specs.Store.{Store}
 use Rattle.store.specs.Outcome.{NoReason, Judges}
 use Rattle.store.proofs.Outcomes.{judges-ok, first-no, then-judged}
 use Rattle.unmap.specs.Leave.{Asked}
-use Rattle.grow.specs.Sizes.{pagesTo, SizeReason, SizeReady}
-use Rattle.grow.specs.Fresh.{FreshReason, FreshReady}
+use Rattle.shrink.specs.Sizes.{pagesTo, SizeReason, SizeReady}
+use Rattle.fresh.specs.Fresh.{FreshReason, FreshReady}
 use Rattle.grow.specs.Grow.{gained, GrowReason, sizes, pages, GrowReady}
-use Rattle.grow.proofs.SizeReasons.{size-upto, size-clear}
-use Rattle.grow.proofs.FreshReasons.{fresh-range, fresh-clear, fresh-none}
+use Rattle.shrink.proofs.SizeReasons.{size-upto, size-clear}
+use Rattle.fresh.proofs.FreshReasons.{fresh-range, fresh-clear, fresh-none}
 
 module _ (s : Store) (root old new : ℕ) where
   abbrev R : ℕ → Type 0

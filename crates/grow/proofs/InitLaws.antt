@@ -13,15 +13,15 @@ use Rattle.store.specs.Outcome.{Judges}
 use Rattle.store.specs.declared.Answer.{Answer}
 use Rattle.store.specs.declared.Answer.the-variants.{Refused, Done}
 use Rattle.store.proofs.Outcomes.{one-outcome}
-use Rattle.map.proofs.Hang.{lowest-free}
+use Rattle.enter.proofs.Hang.{lowest-free}
 use Rattle.unmap.specs.Leave.{Asked}
-use Rattle.grow.specs.Fresh.{freshPages, FrameFits, FrameEntered}
+use Rattle.fresh.specs.Fresh.{freshPages, FrameFits, FrameEntered}
 use Rattle.grow.specs.Init.{InitReason, too-long, page, InitReady, padded, InitDone, Init}
-use Rattle.grow.specs.Grown.{Grown}
-use Rattle.grow.proofs.FrameCode.{put-frame}
-use Rattle.grow.proofs.FreshPages.{Growable, growable, frame-fits}
+use Rattle.fresh.specs.Grown.{Grown}
+use Rattle.fresh.proofs.FrameCode.{put-frame}
+use Rattle.fresh.proofs.FreshPages.{Growable, growable, frame-fits}
 use Rattle.grow.proofs.InitReasons.{asked, clear}
-use Rattle.grow.proofs.GrownLaws.{pages-grown, growable-where}
+use Rattle.fresh.proofs.GrownLaws.{pages-grown, growable-where}
 
 -- the source and the zeros after it fill a frame
 pub padded-length : (src : List ℕ) → length src < 4096 → length (padded src) ≡ 4096

@@ -11,9 +11,9 @@ use Rattle.store.proofs.Outcomes.{Just, first-no, then-judged, just-no}
 use Rattle.well_formed.specs.Root.{RootReason, RootReady}
 use Rattle.well_formed.proofs.RootReasons.{root-upto, root-clear}
 use Rattle.unmap.specs.Leave.{Asked}
-use Rattle.grow.specs.Fresh.{FreshReason, FreshReady}
+use Rattle.fresh.specs.Fresh.{FreshReason, FreshReady}
 use Rattle.grow.specs.Init.{InitReason, at-root, too-long, page, InitReady}
-use Rattle.grow.proofs.FreshReasons.{fresh-range, fresh-clear}
+use Rattle.fresh.proofs.FreshReasons.{fresh-range, fresh-clear}
 
 module _ (s : Store) (root : ℕ) (src : List ℕ) where
   abbrev R : ℕ → Type 0

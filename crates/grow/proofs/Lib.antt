@@ -1,18 +1,8 @@
--- The laws of growing and shrinking.
-pub mod SizeReasons
-pub mod FreshReasons
-pub mod FrameBytes
-pub mod FrameCode
-pub mod FillPage
-pub mod FreshPage
-pub mod FreshPages
-pub mod GrowLoop
+-- The laws of growing, and of growing and then shrinking back.
 pub mod GrowCode
-pub mod GrownLaws
+pub mod PaddedFrame
 pub mod InitReasons
 pub mod InitLaws
 pub mod GrowReasons
 pub mod GrowLaws
-pub mod ShrinkReasons
-pub mod ShrinkLaws
 pub mod BackLaws

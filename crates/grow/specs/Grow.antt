@@ -8,8 +8,8 @@ use lib.ListN.{replicate}
 use Rattle.store.specs.Store.{Store}
 use Rattle.store.specs.Outcome.{Outcome}
 use Rattle.store.specs.declared.Answer.{Answer}
-use Rattle.grow.specs.Sizes.{pagesTo, SizeReason, SizeReady}
-use Rattle.grow.specs.Fresh.{FreshReason, FreshReady, freshPages}
+use Rattle.shrink.specs.Sizes.{pagesTo, SizeReason, SizeReady}
+use Rattle.fresh.specs.Fresh.{FreshReason, FreshReady, freshPages}
 
 -- the pages that new bytes take and old bytes do not; there are none where new is less
 abbrev pub gained : ℕ → ℕ → ℕ

@@ -7,7 +7,7 @@ use Rattle.store.specs.Store.{Store}
 use Rattle.store.specs.Outcome.{Outcome}
 use Rattle.store.specs.declared.Answer.{Answer}
 use Rattle.well_formed.specs.Root.{RootReason, RootReady}
-use Rattle.grow.specs.Fresh.{FreshReason, FreshReady, freshPage}
+use Rattle.fresh.specs.Fresh.{FreshReason, FreshReady, freshPage}
 
 -- 1, 2, 3; 5: the source has 4,096 bytes or more; 14, 16 or 17 for page 0
 pub data InitReason (s : Store) (root : ℕ) (src : List ℕ) : ℕ → Type 0 where

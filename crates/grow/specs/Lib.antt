@@ -1,8 +1,3 @@
--- What the contracts of `uvm_init`, `uvm_alloc` and `uvm_dealloc` cite.
-pub mod Sizes
-pub mod Fill
-pub mod Fresh
+-- What the contracts of `uvm_init` and `uvm_alloc` cite.
 pub mod Init
 pub mod Grow
-pub mod Shrink
-pub mod Grown

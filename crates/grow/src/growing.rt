@@ -1,11 +1,9 @@
 // New pages at the end, after `uvm_alloc` of page_table.rs: judged whole, then done.
-use super::fresh;
-use super::sizes;
 use store::Answer;
 ghost use mathlib.Core.Path.{_≡_};
 ghost use Rattle.store.specs.Outcome.{Judges};
 ghost use Rattle.store.specs.Store.{storeOf};
-ghost use Rattle.grow.specs.Fresh.{CanFresh, freshPages};
+ghost use Rattle.fresh.specs.Fresh.{CanFresh, freshPages};
 ghost use Rattle.grow.specs.Grow.{zeroed, GrowReason, GrowReady, Grow};
 
 fn judge_grow(
@@ -22,12 +20,12 @@ fn judge_grow(
         (GrowReady (storeOf (now (words .entry)) (now (tmarks .entry)) (now (bytes .entry)) (now (fmarks .entry))) root old new)
         r ⌝ }
 {
-    let no = sizes::judge_sizes(words, tmarks, bytes, fmarks, root, old, new);
+    let no = shrink::judge_sizes(words, tmarks, bytes, fmarks, root, old, new);
     if no != 0 {
         return no;
     }
-    let first = sizes::pages_to(old);
-    let end = sizes::pages_to(new);
+    let first = shrink::pages_to(old);
+    let end = shrink::pages_to(new);
     if end <= first {
         return 0;
     }
@@ -76,8 +74,8 @@ pub fn uvm_alloc(
     if no != 0 {
         return Answer::Refused(no);
     }
-    let first = sizes::pages_to(old);
-    let end = sizes::pages_to(new);
+    let first = shrink::pages_to(old);
+    let end = shrink::pages_to(new);
     if first < end {
         grow_pages(
             words,
@@ -88,7 +86,7 @@ pub fn uvm_alloc(
             first,
             end - first,
         );
-        return Answer::Done(sizes::grown(old, new));
+        return Answer::Done(shrink::grown(old, new));
     }
-    Answer::Done(sizes::grown(old, new))
+    Answer::Done(shrink::grown(old, new))
 }

@@ -1,5 +1,4 @@
 // The first page of a process, after `uvm_init` of page_table.rs: judged whole, then done.
-use super::fresh;
 use store::Answer;
 ghost use mathlib.Core.Path.{_≡_};
 ghost use Prim.Native.Nat.{_<_};

@@ -6,23 +6,23 @@ use Rattle.store.specs.Store.{Store}
 use Rattle.store.specs.SetUp.{SetUp}
 use Rattle.store.specs.declared.Answer.{Answer}
 use Rattle.well_formed.specs.Check.{Check}
-use Rattle.walk.specs.Translate.{Translate}
-use Rattle.walk.specs.Satp.{Satp}
+use Rattle.translate.specs.Translate.{Translate}
+use Rattle.translate.specs.Satp.{Satp}
 use Rattle.map.specs.Create.{Create}
 use Rattle.map.specs.Map.{Map}
 use Rattle.unmap.specs.Unmap.{Unmap}
 use Rattle.unmap.specs.Clear.{Clear}
 use Rattle.grow.specs.Init.{Init}
 use Rattle.grow.specs.Grow.{Grow}
-use Rattle.grow.specs.Shrink.{Shrink}
+use Rattle.shrink.specs.Shrink.{Shrink}
 use Rattle.copies.specs.InOut.{In, Out}
 use Rattle.copies.specs.Str.{Str}
 use Rattle.child.specs.Child.{Child}
 use Rattle.copies.specs.declared.StrAnswer.{StrAnswer}
 use Rattle.release.specs.Free.{Free}
-use Rattle.release.specs.Parts.{UvmFree, SharedFree, ProcFree}
-use Rattle.interface.specs.Reply.{Replied, StrReplied}
-use Rattle.interface.specs.declared.Reply.{Reply}
+use Rattle.process.specs.Parts.{UvmFree, SharedFree, ProcFree}
+use Rattle.replies.specs.Reply.{Replied, StrReplied}
+use Rattle.replies.specs.declared.Reply.{Reply}
 
 abbrev pub SetUpReply : Store → Reply → Store → Type 0
 SetUpReply s r s′ = Replied (λ (a : Answer). SetUp s a s′) r

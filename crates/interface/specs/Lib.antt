@@ -1,3 +1,2 @@
 -- What the contracts of `interface` cite.
-pub mod Reply
 pub mod Calls

@@ -1,16 +1,16 @@
 // The helpers of addresses: an address is a number, and an answer is a reply.
-use super::Reply;
-use super::replies::number_reply;
-use super::replies::physical_reply;
-use super::replies::virtual_reply;
 use address::PhysicalAddress;
 use address::VirtualAddress;
+use replies::Reply;
+use replies::number_reply;
+use replies::physical_reply;
+use replies::virtual_reply;
 ghost use mathlib.Core.Path.{_≡_};
 ghost use Prim.Native.Nat.{_+_, _%_};
 ghost use lib.Dec.{ltb, eqb};
 ghost use Rattle.address.specs.Page.{down, up};
 ghost use Rattle.address.specs.Answer.{within64, atLeast0, indexAt};
-ghost use Rattle.interface.specs.Reply.{replyOf};
+ghost use Rattle.replies.specs.Reply.{replyOf};
 
 #[no_mangle]
 pub extern "C" fn ronakvesh_virtual_new(addr: u64) -> u64

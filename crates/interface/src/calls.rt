@@ -1,9 +1,9 @@
 // The calls on a store, which is four lent slices: an address is a number, and an answer is a reply.
-use super::Reply;
-use super::replies::answer_reply;
-use super::replies::str_reply;
 use address::PhysicalAddress;
 use address::VirtualAddress;
+use replies::Reply;
+use replies::answer_reply;
+use replies::str_reply;
 ghost use Rattle.store.specs.Store.{storeOf};
 ghost use Rattle.interface.specs.Calls.{SetUpReply, CheckReply, TranslateReply, SatpReply, CreateReply, MapReply, UnmapReply, ClearReply, InitReply, GrowReply, ShrinkReply, InReply, OutReply, StrReply, ChildReply, FreeReply, UvmFreeReply, SharedFreeReply, ProcFreeReply};
 
@@ -44,7 +44,7 @@ pub extern "C" fn ronakvesh_pgt_translate(
 ) -> Reply
     ensures { λ r. ⌜ TranslateReply (storeOf (now (words .entry)) (now (tmarks .entry)) (now (bytes .entry)) (now (fmarks .entry))) root va r ⌝ }
 {
-    answer_reply(walk::pgt_translate(words, tmarks, bytes, fmarks, root, VirtualAddress(va)))
+    answer_reply(translate::pgt_translate(words, tmarks, bytes, fmarks, root, VirtualAddress(va)))
 }
 
 #[no_mangle]
@@ -57,7 +57,7 @@ pub extern "C" fn ronakvesh_as_satp(
 ) -> Reply
     ensures { λ r. ⌜ SatpReply (storeOf (now (words .entry)) (now (tmarks .entry)) (now (bytes .entry)) (now (fmarks .entry))) root r ⌝ }
 {
-    answer_reply(walk::as_satp(words, tmarks, bytes, fmarks, root))
+    answer_reply(translate::as_satp(words, tmarks, bytes, fmarks, root))
 }
 
 #[no_mangle]
@@ -193,7 +193,7 @@ pub extern "C" fn ronakvesh_uvm_dealloc(
         (storeOf (now (words .entry)) (now (tmarks .entry)) (now (bytes .entry)) (now (fmarks .entry))) root old new r
         (storeOf (now (words .exit)) (now (tmarks .entry)) (now (bytes .entry)) (now (fmarks .exit))) ⌝ }
 {
-    answer_reply(grow::uvm_dealloc(words, tmarks, bytes, fmarks, root, old, new))
+    answer_reply(shrink::uvm_dealloc(words, tmarks, bytes, fmarks, root, old, new))
 }
 
 #[no_mangle]
@@ -288,7 +288,7 @@ pub extern "C" fn ronakvesh_uvm_free(
         (storeOf (now (words .entry)) (now (tmarks .entry)) (now (bytes .entry)) (now (fmarks .entry))) root size r
         (storeOf (now (words .exit)) (now (tmarks .exit)) (now (bytes .entry)) (now (fmarks .exit))) ⌝ }
 {
-    answer_reply(release::uvm_free(words, tmarks, bytes, fmarks, root, size))
+    answer_reply(process::uvm_free(words, tmarks, bytes, fmarks, root, size))
 }
 
 #[no_mangle]
@@ -304,7 +304,7 @@ pub extern "C" fn ronakvesh_free_shared_user_pagetable(
         (storeOf (now (words .entry)) (now (tmarks .entry)) (now (bytes .entry)) (now (fmarks .entry))) root size r
         (storeOf (now (words .exit)) (now (tmarks .exit)) (now (bytes .entry)) (now (fmarks .exit))) ⌝ }
 {
-    answer_reply(release::free_shared_user_pagetable(words, tmarks, bytes, fmarks, root, size))
+    answer_reply(process::free_shared_user_pagetable(words, tmarks, bytes, fmarks, root, size))
 }
 
 #[no_mangle]
@@ -320,5 +320,5 @@ pub extern "C" fn ronakvesh_proc_free_pagetable(
         (storeOf (now (words .entry)) (now (tmarks .entry)) (now (bytes .entry)) (now (fmarks .entry))) root size r
         (storeOf (now (words .exit)) (now (tmarks .exit)) (now (bytes .entry)) (now (fmarks .exit))) ⌝ }
 {
-    answer_reply(release::proc_free_pagetable(words, tmarks, bytes, fmarks, root, size))
+    answer_reply(process::proc_free_pagetable(words, tmarks, bytes, fmarks, root, size))
 }

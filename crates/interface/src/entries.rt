@@ -1,13 +1,13 @@
 // The helpers of entries: an entry is a number, and an answer is a reply.
-use super::Reply;
-use super::replies::entry_reply;
 use address::PhysicalAddress;
 use page_table_entry::PageTableEntry;
+use replies::Reply;
+use replies::entry_reply;
 ghost use mathlib.Core.Path.{_≡_};
 ghost use Rattle.page_table_entry.specs.Layout.{bitV, bitR, bitW, bitX, bitU, has, leaf, flags, frameOf};
 ghost use Rattle.page_table_entry.specs.Change.{withBit};
 ghost use Rattle.page_table_entry.specs.Built.{named, written};
-ghost use Rattle.interface.specs.Reply.{replyOf};
+ghost use Rattle.replies.specs.Reply.{replyOf};
 
 #[no_mangle]
 pub extern "C" fn ronakvesh_entry_new(addr: u64) -> u64

@@ -3,11 +3,3 @@ mod addresses;
 mod calls;
 mod entries;
 mod pages;
-mod replies;
-
-// An answer as C reads it: number 0 and the value, or the number of the refusal and 0.
-#[repr(C)]
-pub struct Reply {
-    pub number: u64,
-    pub value: u64,
-}

@@ -1,13 +1,13 @@
 // The helpers of rounding, and the pages of a range.
-use super::Reply;
-use super::replies::number_reply;
 use address::VirtualAddress;
+use replies::Reply;
+use replies::number_reply;
 use rounding::PageRange;
 ghost use mathlib.Core.Path.{_≡_};
 ghost use Rattle.address.specs.Page.{down, up};
 ghost use Rattle.address.specs.Answer.{within64};
 ghost use Rattle.rounding.specs.Range.{Covers};
-ghost use Rattle.interface.specs.Reply.{replyOf};
+ghost use Rattle.replies.specs.Reply.{replyOf};
 
 #[no_mangle]
 pub extern "C" fn ronakvesh_page_round_up(addr: u64) -> Reply

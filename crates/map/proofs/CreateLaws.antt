@@ -19,10 +19,10 @@ use Rattle.well_formed.specs.Check.{Judged}
 use Rattle.well_formed.proofs.Verdict.{judged-no}
 use Rattle.walk.proofs.Spans.{Upd, zeros-upd}
 use Rattle.map.specs.Create.{CreateReason, sizes, unformed, no-table, rooted, CreateDone, Create, Created}
-use Rattle.map.proofs.Updates.{at-or, put, put-upd, upd-mark}
-use Rattle.map.proofs.Tables.{leveled, tree-rooted}
-use Rattle.map.proofs.Step.{free-zero}
-use Rattle.map.proofs.Hang.{lowest-free}
+use Rattle.enter.proofs.Updates.{at-or, put, put-upd, upd-mark}
+use Rattle.enter.proofs.Tables.{leveled, tree-rooted}
+use Rattle.enter.proofs.Step.{free-zero}
+use Rattle.enter.proofs.Hang.{lowest-free}
 
 module _ (s : Store) where
   abbrev R : ℕ → Type 0

@@ -13,9 +13,9 @@ use Rattle.store.proofs.Tree.{tree-of, well-formed-of}
 use Rattle.walk.specs.Missing.{missing}
 use Rattle.walk.proofs.MissingLaws.{missing-none, missing-le}
 use Rattle.walk.proofs.Pages.{mapped-word}
-use Rattle.map.specs.Enter.{enterPages, Plain}
+use Rattle.enter.specs.Enter.{enterPages, Plain}
 use Rattle.map.specs.Demand3.{Fit, Room, Entered}
-use Rattle.map.proofs.EnterPages.{Ready, PagesEntered, enter-pages}
+use Rattle.enter.proofs.EnterPages.{Ready, PagesEntered, enter-pages}
 
 -- ---- the entries
 

@@ -1,20 +1,7 @@
--- The laws of `uvmcreate` and `map`: their reasons, what entering pages does, and demand 3.
+-- The laws of `uvmcreate` and `map`: their reasons, what entered pages mean, and demand 3.
 pub mod NumberLaws
 pub mod ReasonLaws
-pub mod Slots
-pub mod PutRun
-pub mod Updates
-pub mod Tables
-pub mod Leaves
-pub mod Walks
-pub mod Step
-pub mod Hang
-pub mod Write
 pub mod CreateLaws
-pub mod EnterPage
-pub mod EnterPages
-pub mod Runs
-pub mod Going
 pub mod Entered
 pub mod ReadyLaws
 pub mod Demand3

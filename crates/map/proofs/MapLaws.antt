@@ -17,7 +17,7 @@ use Rattle.walk.proofs.Calls.{root-in}
 use Rattle.walk.proofs.MissingLaws.{missing-in, missing-none}
 use Rattle.map.specs.Numbers.{pagesOf}
 use Rattle.map.specs.Reasons.{MapReason, MapReady}
-use Rattle.map.specs.Enter.{enterPages, CanEnter}
+use Rattle.enter.specs.Enter.{enterPages, CanEnter}
 use Rattle.map.specs.Map.{MapDone, Map}
 use Rattle.map.proofs.Entered.{ready, entry-rounded}
 use Rattle.map.proofs.ReadyLaws.{fit, room}

@@ -11,7 +11,7 @@ use Rattle.store.specs.WellFormed.{Outside, WellFormed}
 use Rattle.store.specs.Count.{freeTables}
 use Rattle.store.specs.Walk.{resolve}
 use Rattle.store.specs.declared.Answer.the-variants.{Done}
-use Rattle.walk.specs.Mapped.{Mapped}
+use Rattle.walk.specs.Mapped.{Mapped, Other}
 use Rattle.walk.specs.Missing.{missing}
 use Rattle.map.specs.Numbers.{pagesOf}
 use Rattle.map.specs.Map.{Map}
@@ -32,10 +32,6 @@ pub record Fit (s : Store) (r p n frame q : ℕ) : Type 0 where
 pub record Room (s : Store) (r p n : ℕ) : Type 0 where
   pub unmapped : (i : ℕ) → i < n → Mapped s r (p + i) → ⊥
   pub tables : missing s r p n ≤ freeTables s
-
--- page x of root r′ is none of those pages
-abbrev pub Other : ℕ → ℕ → ℕ → ℕ → ℕ → Type 0
-Other r p n r′ x = r′ ≡ r → p ≤ x → x < p + n → ⊥
 
 -- s′ is s with these pages mapped
 pub record Entered (s : Store) (r p n frame q : ℕ) (s′ : Store) : Type 0 where

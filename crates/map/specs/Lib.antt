@@ -2,6 +2,5 @@
 pub mod Create
 pub mod Numbers
 pub mod Reasons
-pub mod Enter
 pub mod Map
 pub mod Demand3

@@ -8,7 +8,7 @@ use Rattle.store.specs.Outcome.{Outcome}
 use Rattle.store.specs.declared.Answer.{Answer}
 use Rattle.walk.specs.Missing.{missing}
 use Rattle.map.specs.Numbers.{pagesOf}
-use Rattle.map.specs.Enter.{enterPages}
+use Rattle.enter.specs.Enter.{enterPages}
 use Rattle.map.specs.Reasons.{MapReason}
 
 -- the tables taken, and the pages of the range entered with the frames from pa on

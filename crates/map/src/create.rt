@@ -1,5 +1,4 @@
 // A root, after `uvmcreate` of page_table.rs.
-use super::enter;
 use store::Answer;
 ghost use Rattle.store.specs.Store.{storeOf};
 ghost use Rattle.map.specs.Create.{Create};

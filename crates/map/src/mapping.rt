@@ -1,5 +1,4 @@
 // The call itself: judged whole, then entered.
-use super::enter;
 use super::judge;
 use address::PhysicalAddress;
 use address::VirtualAddress;

@@ -12,13 +12,13 @@ use Rattle.store.specs.Store.{Store}
 use Rattle.store.specs.declared.Answer.{Answer}
 use Rattle.store.proofs.Outcomes.{one-outcome}
 use Rattle.well_formed.specs.Root.{RootReason}
-use Rattle.walk.proofs.TranslateLaws.{one-translate}
+use Rattle.translate.proofs.TranslateLaws.{one-translate}
 use Rattle.map.proofs.CreateLaws.{one-create}
 use Rattle.map.proofs.MapLaws.{one-map}
-use Rattle.program.specs.declared.command.Command.{Command}
-use Rattle.program.specs.declared.command.Command.the-variants.{New, Map, Find, Dump, Other}
-use Rattle.program.specs.Command.{commandOf}
-use Rattle.program.specs.Text.{said}
+use Rattle.command.specs.declared.command.Command.{Command}
+use Rattle.command.specs.declared.command.Command.the-variants.{New, Map, Find, Dump, Other}
+use Rattle.command.specs.Command.{commandOf}
+use Rattle.text.specs.Text.{said}
 use Rattle.program.specs.Dump as tree
 use Rattle.program.specs.Answers.{Ran, Answered}
 use Rattle.program.specs.Lines.{Step, Fed}

@@ -9,9 +9,9 @@ use native.Mathlib.Omega.{arith}
 use lib.Dec.{ltb, leb, eqb}
 use lib.ListN.{length, length-append}
 use borrow.Author.Tests.{lt-ltb, le-ltb, le-leb, eqb-true, eqb-false}
-use Rattle.program.specs.declared.numbers.Parsed.the-variants.{Number}
-use Rattle.program.specs.Text.{spelt, decimal}
-use Rattle.program.specs.Command.{allDigits, denotes, parsedOf, piecesOf, grown}
+use Rattle.command.specs.declared.numbers.Parsed.the-variants.{Number}
+use Rattle.text.specs.Text.{spelt, decimal}
+use Rattle.command.specs.Command.{allDigits, denotes, parsedOf, piecesOf, grown}
 
 -- ---- numbers
 

@@ -3,10 +3,10 @@ use mathlib.Core.Path.{_≡_, refl, sym}
 use mathlib.Core.List.{[], _∷_}
 use native.Mathlib.Omega.{arith}
 use Rattle.store.specs.declared.Answer.the-variants.{Refused, Done}
-use Rattle.program.specs.declared.command.Command.the-variants.{New, Map, Find, Dump, Other}
-use Rattle.program.specs.Command.{commandOf, piecesOf, allDigits, denotes, sameBytes, allNumbers, values, told}
-use Rattle.program.specs.Text.{spelt, decimal, lineOf, said, rowText}
-use Rattle.program.proofs.Decimals.{decimal-is}
+use Rattle.command.specs.declared.command.Command.the-variants.{New, Map, Find, Dump, Other}
+use Rattle.command.specs.Command.{commandOf, piecesOf, allDigits, denotes, sameBytes, allNumbers, values, told}
+use Rattle.text.specs.Text.{spelt, decimal, lineOf, said, rowText}
+use Rattle.text.proofs.Decimals.{decimal-is}
 
 -- `new`
 line-1 : commandOf (110 ∷ 101 ∷ 119 ∷ []) ≡ New

@@ -7,7 +7,7 @@ use lib.ListN.{length, take, length-take}
 use lib.Seq.{take-all}
 use Rattle.store.specs.Store.{Store}
 use Rattle.program.specs.Lines.{Told, ended, grown, Fed}
-use Rattle.program.proofs.Writing.{clip}
+use Rattle.text.proofs.Writing.{clip}
 use Rattle.program.proofs.Answering.{kept-enough}
 
 -- no byte is a line end

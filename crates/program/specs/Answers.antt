@@ -6,13 +6,13 @@ use lib.ListN.{length}
 use Rattle.store.specs.Store.{Store}
 use Rattle.store.specs.declared.Answer.{Answer}
 use Rattle.store.specs.declared.Answer.the-variants.{Refused}
-use Rattle.walk.specs.Translate.{Translate}
+use Rattle.translate.specs.Translate.{Translate}
 use Rattle.map.specs.Create.{Create}
 use Rattle.map.specs.Map as call
-use Rattle.program.specs.declared.command.Command.{Command}
-use Rattle.program.specs.declared.command.Command.the-variants.{New, Map, Find, Dump, Other}
-use Rattle.program.specs.Command.{commandOf}
-use Rattle.program.specs.Text.{said, Wrote}
+use Rattle.command.specs.declared.command.Command.{Command}
+use Rattle.command.specs.declared.command.Command.the-variants.{New, Map, Find, Dump, Other}
+use Rattle.command.specs.Command.{commandOf}
+use Rattle.text.specs.Text.{said, Wrote}
 use Rattle.program.specs.Dump as tree
 
 -- the line of the call's answer, and before it what a dump lists; 99 for any other line

@@ -9,7 +9,7 @@ use Rattle.store.specs.Outcome.{Outcome}
 use Rattle.store.specs.declared.Answer.{Answer}
 use Rattle.store.specs.declared.Answer.the-variants.{Refused, Done}
 use Rattle.well_formed.specs.Root.{RootReason}
-use Rattle.program.specs.Text.{rowText, said, Wrote}
+use Rattle.text.specs.Text.{rowText, said, Wrote}
 use Rattle.program.specs.declared.dump.Listing.{Listing}
 
 -- a line: level, index, word

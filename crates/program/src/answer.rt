@@ -1,10 +1,8 @@
 // What the program prints for a line: the command's call is made, and its answer goes into a lent slice.
-use super::command;
-use super::command::Command;
 use super::dump;
-use super::text;
 use address::PhysicalAddress;
 use address::VirtualAddress;
+use command::Command;
 use store::Answer;
 ghost use lib.ListN.{take};
 ghost use Rattle.io.specs.Counts.{Counts};
@@ -46,7 +44,7 @@ fn answer_command(
         Command::Find(root, va) => text::put_answer(
             out,
             0,
-            walk::pgt_translate(words, tmarks, bytes, fmarks, root, VirtualAddress(va)),
+            translate::pgt_translate(words, tmarks, bytes, fmarks, root, VirtualAddress(va)),
         ),
         Command::Dump(root) => dump::dump(words, tmarks, bytes, fmarks, root, out),
         Command::Other => text::put_answer(out, 0, Answer::Refused(99)),

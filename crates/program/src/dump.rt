@@ -1,5 +1,4 @@
 // The dump of a root: a table lists its entries upward, and a pointer entry lists its table right after itself.
-use super::text;
 use store::Answer;
 ghost use Prim.Native.Nat.{_^_, _≤_, _<_};
 ghost use mathlib.Core.Path.{_≡_};

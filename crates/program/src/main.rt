@@ -1,9 +1,6 @@
 // Reads commands from standard input, one a line, and prints what each answers. The store has 8 tables and 8 frames.
 mod answer;
-mod command;
 mod dump;
-mod numbers;
-mod text;
 
 use libc::STDIN_FILENO;
 use libc::STDOUT_FILENO;

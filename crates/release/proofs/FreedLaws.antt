@@ -22,7 +22,7 @@ use Rattle.store.proofs.Owners.{owner, pointed}
 use Rattle.well_formed.specs.Root.{RootReady}
 use Rattle.walk.specs.Mapped.{Mapped}
 use Rattle.walk.proofs.Pages.{mapped-word}
-use Rattle.map.proofs.Tables.{leveled}
+use Rattle.enter.proofs.Tables.{leveled}
 use Rattle.release.specs.Free.{mapped, ofRoot, wipedWords, wipedMarks, released, tablesOf, Free}
 use Rattle.release.specs.Freed.{Freed}
 use Rattle.release.proofs.Wiped.{wiped-length, wiped-in, wiped-out}

@@ -1,6 +1,5 @@
--- The laws of releasing.
+-- The laws of `free`.
 pub mod FreeReasons
-pub mod StillRoot
 pub mod FreeTreeLaws
 pub mod Truth
 pub mod Wiped
@@ -10,13 +9,3 @@ pub mod Released
 pub mod GivenBack
 pub mod FreedLaws
 pub mod FreeLaws
-pub mod LeaveSame
-pub mod RestLaws
-pub mod CutLaws
-pub mod PageLaws
-pub mod PoolPages
-pub mod RootGoneLaws
-pub mod PartLaws
-pub mod OtherTables
-pub mod RootTables
-pub mod Lifetime

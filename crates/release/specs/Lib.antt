@@ -1,8 +1,4 @@
--- What the contracts of `free` and of the calls made of parts cite.
+-- What the contract of `free` cites, and what it means.
 pub mod Free
 pub mod FreeTree
 pub mod Freed
-pub mod Parts
-pub mod PartsReady
-pub mod RootGone
-pub mod Lifetime

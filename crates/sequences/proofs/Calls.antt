@@ -13,10 +13,10 @@ use Rattle.store.specs.declared.Answer.the-variants.{Refused, Done}
 use Rattle.store.proofs.SetUp.{one-set-up}
 use Rattle.well_formed.specs.Check.{Check}
 use Rattle.well_formed.proofs.Verdict.{one-check}
-use Rattle.walk.specs.Translate.{Translate}
-use Rattle.walk.specs.Satp.{Satp}
-use Rattle.walk.proofs.TranslateLaws.{one-translate}
-use Rattle.walk.proofs.SatpLaws.{one-satp}
+use Rattle.translate.specs.Translate.{Translate}
+use Rattle.translate.specs.Satp.{Satp}
+use Rattle.translate.proofs.TranslateLaws.{one-translate}
+use Rattle.translate.proofs.SatpLaws.{one-satp}
 use Rattle.map.specs.Create.{Create}
 use Rattle.map.specs.Map.{Map}
 use Rattle.map.proofs.CreateLaws.{one-create}
@@ -27,10 +27,10 @@ use Rattle.unmap.proofs.UnmapLaws.{one-unmap}
 use Rattle.unmap.proofs.ClearLaws.{one-clear}
 use Rattle.grow.specs.Init.{Init}
 use Rattle.grow.specs.Grow.{Grow}
-use Rattle.grow.specs.Shrink.{Shrink}
+use Rattle.shrink.specs.Shrink.{Shrink}
 use Rattle.grow.proofs.InitLaws.{one-init}
 use Rattle.grow.proofs.GrowLaws.{one-grow}
-use Rattle.grow.proofs.ShrinkLaws.{one-shrink}
+use Rattle.shrink.proofs.ShrinkLaws.{one-shrink}
 use Rattle.copies.specs.InOut.{In, Out}
 use Rattle.copies.specs.Str.{strSaid, Str}
 use Rattle.child.specs.Child.{Child}
@@ -41,9 +41,9 @@ use Rattle.copies.proofs.MovedLaws.{in-moved}
 use Rattle.copies.proofs.TextLaws.{one-str, text-read}
 use Rattle.child.proofs.ChildLaws.{one-child}
 use Rattle.release.specs.Free.{Free}
-use Rattle.release.specs.Parts.{UvmFree, SharedFree, ProcFree}
+use Rattle.process.specs.Parts.{UvmFree, SharedFree, ProcFree}
 use Rattle.release.proofs.FreeLaws.{one-free}
-use Rattle.release.proofs.PartLaws.{one-uvm-free, one-shared-free, one-proc-free}
+use Rattle.process.proofs.PartLaws.{one-uvm-free, one-shared-free, one-proc-free}
 use Rattle.sequences.specs.Call.{Call, set-up, check, uvmcreate, map, pgt-translate, uvm-init, uvm-alloc, uvm-dealloc, uvm-unmap, uvm-clear, uvm-copy, copy-out, copy-in, copy-in-str, free, uvm-free, proc-free-pagetable, free-shared-user-pagetable, as-satp}
 use Rattle.sequences.specs.Answers.{Answers}
 use Rattle.sequences.specs.Numbers.{numbers, Listed}

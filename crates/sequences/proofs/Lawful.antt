@@ -9,7 +9,7 @@ use Rattle.store.specs.Store.{Store}
 use Rattle.store.specs.Outcome.{answerSaid}
 use Rattle.store.specs.declared.Answer.{Answer}
 use Rattle.store.specs.declared.Answer.the-variants.{Refused, Done}
-use Rattle.release.proofs.PartLaws.{One}
+use Rattle.process.proofs.PartLaws.{One}
 use Rattle.sequences.specs.Call.{Call, Lent, lent}
 use Rattle.sequences.specs.Answers.{Writes, Reads, Fills}
 use Rattle.sequences.specs.Numbers.{numbers, Listed}

@@ -9,13 +9,13 @@ use Rattle.store.specs.Store.{Store, Sized}
 use Rattle.store.specs.declared.Answer.the-variants.{Done}
 use Rattle.well_formed.specs.Root.{RootReady}
 use Rattle.unmap.specs.Unmap.{UnmapReason, Unmap}
-use Rattle.grow.specs.Sizes.{pagesTo}
+use Rattle.shrink.specs.Sizes.{pagesTo}
 use Rattle.release.specs.Free.{FreeReason, at-root, ofRoot, released, Free}
-use Rattle.release.specs.Parts.{UvmFree, trampoline, trapframe, SharedFree, ProcFree}
-use Rattle.release.specs.RootGone.{RootGone}
+use Rattle.process.specs.Parts.{UvmFree, trampoline, trapframe, SharedFree, ProcFree}
+use Rattle.process.specs.RootGone.{RootGone}
 use Rattle.release.proofs.Wiped.{wiped-length}
 use Rattle.release.proofs.FreedLaws.{free-freed}
-use Rattle.release.proofs.PartLaws.{uvm-free-gone, shared-free-gone, proc-free-gone}
+use Rattle.process.proofs.PartLaws.{uvm-free-gone, shared-free-gone, proc-free-gone}
 use Rattle.sequences.proofs.Reasons.{unmap-root}
 use Rattle.sequences.proofs.Tables.{SameTables}
 use Rattle.sequences.proofs.Left.{Left, KeptSound, left-at}

@@ -10,23 +10,23 @@ use Rattle.store.specs.declared.Answer.the-variants.{Refused}
 use Rattle.store.specs.SetUp as set-up
 use Rattle.well_formed.specs.Check as check
 use Rattle.well_formed.specs.Root as root
-use Rattle.walk.specs.Translate as translate
+use Rattle.translate.specs.Translate as translate
 use Rattle.map.specs.Create as create
 use Rattle.map.specs.Numbers as range
 use Rattle.map.specs.Reasons as map
 use Rattle.unmap.specs.Leave as leave
 use Rattle.unmap.specs.Unmap as unmap
 use Rattle.unmap.specs.Clear as clear
-use Rattle.grow.specs.Sizes as sizes
-use Rattle.grow.specs.Fresh as fresh
+use Rattle.shrink.specs.Sizes as sizes
+use Rattle.fresh.specs.Fresh as fresh
 use Rattle.grow.specs.Init as init
 use Rattle.grow.specs.Grow as grow
-use Rattle.grow.specs.Shrink as shrink
+use Rattle.shrink.specs.Shrink as shrink
 use Rattle.copies.specs.Needed as needed
 use Rattle.copies.specs.Str as str
 use Rattle.child.specs.Child as child
 use Rattle.release.specs.Free as free
-use Rattle.release.specs.Parts.{Then, UvmFree, UnmapOne, trampoline, trapframe, SharedFree, ProcFree}
+use Rattle.process.specs.Parts.{Then, UvmFree, UnmapOne, trampoline, trapframe, SharedFree, ProcFree}
 use Rattle.sequences.specs.Numbers.{afterTwo, afterRoot, among, Listed}
 
 root-listed : {s : Store} {r k : ℕ} (ns : List ℕ) → root.RootReason s r k → Listed k (afterRoot ns)

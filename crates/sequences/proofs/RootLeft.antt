@@ -27,14 +27,14 @@ use Rattle.unmap.specs.Gone.{Gone}
 use Rattle.unmap.proofs.UnmapReasons.{within}
 use Rattle.unmap.proofs.UnmapLaws.{unmap-gone}
 use Rattle.unmap.proofs.ClearedLaws.{clear-cleared}
-use Rattle.grow.specs.Sizes.{pagesTo, SizeReason, at-root, too-large}
+use Rattle.shrink.specs.Sizes.{pagesTo, SizeReason, at-root, too-large}
 use Rattle.grow.specs.Init as init
 use Rattle.grow.specs.Grow as grow
-use Rattle.grow.specs.Shrink as shrink
-use Rattle.grow.specs.Grown.{Grown}
+use Rattle.shrink.specs.Shrink as shrink
+use Rattle.fresh.specs.Grown.{Grown}
 use Rattle.grow.proofs.InitLaws.{init-grown}
 use Rattle.grow.proofs.GrowLaws.{grow-grown}
-use Rattle.grow.proofs.ShrinkLaws.{shrink-gone}
+use Rattle.shrink.proofs.ShrinkLaws.{shrink-gone}
 use Rattle.copies.specs.Needed as needed
 use Rattle.copies.specs.InOut.{Out}
 use Rattle.child.specs.Child as child

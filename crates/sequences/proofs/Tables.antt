@@ -7,10 +7,10 @@ use lib.ListN.{length, length-set}
 use Rattle.store.specs.Store.{Store}
 use Rattle.store.specs.Count.{lowest}
 use Rattle.store.specs.Walk.{slotWord, slot}
-use Rattle.map.specs.Enter.{linked, ifZero, hang, tabled, enterPage, enterPages}
+use Rattle.enter.specs.Enter.{linked, ifZero, hang, tabled, enterPage, enterPages}
 use Rattle.unmap.specs.Leave.{leaveSlot, leavePage, leavePages}
-use Rattle.grow.specs.Fill.{filled}
-use Rattle.grow.specs.Fresh.{freshPage, freshPages}
+use Rattle.fresh.specs.Fill.{filled}
+use Rattle.fresh.specs.Fresh.{freshPage, freshPages}
 
 -- s′ has as many tables as s
 abbrev pub SameTables : Store → Store → Type 0

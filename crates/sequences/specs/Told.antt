@@ -3,8 +3,8 @@ use mathlib.Core.Path.{_≡_}
 use Rattle.address.specs.Answer.{Said}
 use Rattle.sequences.specs.Call.{Call, Lent}
 use Rattle.sequences.specs.Answers.{Answers}
-use Rattle.interface.specs.Reply.{replyOf}
-use Rattle.interface.specs.declared.Reply.{Reply}
+use Rattle.replies.specs.Reply.{replyOf}
+use Rattle.replies.specs.declared.Reply.{Reply}
 
 -- the reply is that of something said of which P holds
 pub record Told (P : Said → Type 0) (r : Reply) : Type 0 where

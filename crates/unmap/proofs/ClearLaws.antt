@@ -18,8 +18,8 @@ use Rattle.store.proofs.Tree.{tree-of}
 use Rattle.store.proofs.Walk.{carried}
 use Rattle.well_formed.specs.Root.{RootReason, RootReady}
 use Rattle.well_formed.proofs.RootReasons.{root-clear, root-first}
-use Rattle.map.specs.Enter.{putSlot, stored}
-use Rattle.map.proofs.EnterPage.{page-slot}
+use Rattle.enter.specs.Enter.{putSlot, stored}
+use Rattle.enter.proofs.EnterPage.{page-slot}
 use Rattle.unmap.specs.Clear.{ClearReason, at-root, too-high, no-table, ClearDone, Clear}
 
 module _ (s : Store) (root va : ℕ) where

@@ -14,10 +14,10 @@ use Rattle.store.specs.declared.Answer.the-variants.{Done}
 use Rattle.store.proofs.Tree.{Tree, TreeOf, top, tree-of, well-formed-of}
 use Rattle.store.proofs.Walk.{top-of}
 use Rattle.walk.proofs.Spans.{Upd}
-use Rattle.map.specs.Enter.{putSlot, stored}
-use Rattle.map.proofs.Leaves.{tree-leaf}
-use Rattle.map.proofs.EnterPage.{page-slot}
-use Rattle.map.proofs.Write.{leaf-level, leaf-upd, leaf-here, leaf-rest, leaf-sized}
+use Rattle.enter.specs.Enter.{putSlot, stored}
+use Rattle.enter.proofs.Leaves.{tree-leaf}
+use Rattle.enter.proofs.EnterPage.{page-slot}
+use Rattle.enter.proofs.Write.{leaf-level, leaf-upd, leaf-here, leaf-rest, leaf-sized}
 use Rattle.unmap.specs.Clear.{no-table, Clear}
 use Rattle.unmap.specs.Gone.{Cleared}
 

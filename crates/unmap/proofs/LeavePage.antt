@@ -18,10 +18,10 @@ use Rattle.store.proofs.Scans.{in-range}
 use Rattle.store.proofs.Tree.{Tree, TreeOf, two, top}
 use Rattle.store.proofs.Walk.{top-of}
 use Rattle.walk.proofs.Spans.{Upd, zeros-upd}
-use Rattle.map.specs.Enter.{putSlot}
-use Rattle.map.proofs.Updates.{upd-mark}
-use Rattle.map.proofs.Leaves.{tree-leaf, tree-unpooled}
-use Rattle.map.proofs.Write.{leaf-level, leaf-upd, leaf-here, leaf-rest, leaf-sized}
+use Rattle.enter.specs.Enter.{putSlot}
+use Rattle.enter.proofs.Updates.{upd-mark}
+use Rattle.enter.proofs.Leaves.{tree-leaf, tree-unpooled}
+use Rattle.enter.proofs.Write.{leaf-level, leaf-upd, leaf-here, leaf-rest, leaf-sized}
 use Rattle.unmap.specs.Leave.{PoolFrame, givenBack, leaveSlot, leavePage}
 use Rattle.unmap.specs.Gone.{inPool}
 use Rattle.unmap.proofs.PoolLaws.{leaf-of}

@@ -12,8 +12,8 @@ use Rattle.store.specs.Walk.{slotWord, slot, entryAt, resolve}
 use Rattle.store.proofs.Tree.{TreeOf, top, tree-of}
 use Rattle.store.proofs.Walk.{depth, above}
 use Rattle.walk.proofs.Calls.{root-in}
-use Rattle.map.proofs.Step.{in-words}
-use Rattle.map.proofs.Runs.{next-slot}
+use Rattle.enter.proofs.Step.{in-words}
+use Rattle.enter.proofs.Runs.{next-slot}
 use Rattle.unmap.specs.Leave.{PoolFrame, leavePage, leavePages, leaveRun, CanLeave}
 use Rattle.unmap.proofs.LeavePage.{Left, slotted, page-left}
 

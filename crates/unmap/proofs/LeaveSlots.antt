@@ -9,8 +9,8 @@ use borrow.Author.Tests.{le-leb, lt-leb}
 use Rattle.store.specs.Store.{Store, storeOf, frameNo}
 use Rattle.store.specs.Walk.{slotWord}
 use Rattle.store.proofs.Tree.{slot-word}
-use Rattle.map.specs.Enter.{putSlot}
-use Rattle.map.proofs.Slots.{put-in}
+use Rattle.enter.specs.Enter.{putSlot}
+use Rattle.enter.proofs.Slots.{put-in}
 use Rattle.unmap.specs.Leave.{givenBack, leaveSlot, leaveRun, FramesBecome}
 
 -- a frame below the pool, and one from its start on

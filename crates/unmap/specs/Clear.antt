@@ -8,7 +8,7 @@ use Rattle.store.specs.Walk.{slotWord, slot, entryAt, resolve}
 use Rattle.store.specs.Outcome.{Outcome}
 use Rattle.store.specs.declared.Answer.{Answer}
 use Rattle.well_formed.specs.Root.{RootReason}
-use Rattle.map.specs.Enter.{stored}
+use Rattle.enter.specs.Enter.{stored}
 
 -- 11 is given only when the page's block has no level-0 table
 pub data ClearReason (s : Store) (root va : ℕ) : ℕ → Type 0 where

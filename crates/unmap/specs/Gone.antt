@@ -10,7 +10,7 @@ use Rattle.store.specs.Store.{Store, Sized, mark, frameNo, poolNo}
 use Rattle.store.specs.WellFormed.{WellFormed}
 use Rattle.store.specs.Count.{freeFrames}
 use Rattle.store.specs.Walk.{resolve}
-use Rattle.map.specs.Demand3.{Other}
+use Rattle.walk.specs.Mapped.{Other}
 
 -- 1 where entry e names one of F pool frames, else 0
 unfoldable pub inPool : ℕ → ℕ → ℕ

@@ -10,7 +10,7 @@ use Rattle.store.specs.Store.{Store, storeOf, Sized, mark, frameNo, poolNo}
 use Rattle.store.specs.WellFormed.{WellFormed}
 use Rattle.store.specs.Walk.{slotWord, slot, resolve}
 use Rattle.walk.specs.Mapped.{Mapped}
-use Rattle.map.specs.Enter.{putSlot}
+use Rattle.enter.specs.Enter.{putSlot}
 
 -- Pages p .. p + n - 1 of root r; freeing says whether their pool frames are given back.
 

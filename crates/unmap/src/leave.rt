@@ -13,7 +13,7 @@ fn give_back(fmarks: &mut [u32], e: u64)
     if frame < 0x11_0000 {
         return;
     }
-    map::put_mark(fmarks, frame - 0x11_0000, 0);
+    enter::put_mark(fmarks, frame - 0x11_0000, 0);
 }
 
 // The word in slot m becomes 0; with freeing, its pool frame is given back.

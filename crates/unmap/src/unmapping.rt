@@ -69,6 +69,6 @@ pub fn uvm_clear(
         return Answer::Refused(11);
     }
     let e = PageTableEntry(walk::slot_word(words, m)).rm_user_bit();
-    map::put_slot(words, m, e.0);
+    enter::put_slot(words, m, e.0);
     Answer::Done(0)
 }

@@ -112,12 +112,12 @@ fn released(
         return release::free(words, tmarks, bytes, fmarks, root);
     }
     if call == 18 {
-        return release::uvm_free(words, tmarks, bytes, fmarks, root, size);
+        return process::uvm_free(words, tmarks, bytes, fmarks, root, size);
     }
     if call == 19 {
-        return release::free_shared_user_pagetable(words, tmarks, bytes, fmarks, root, size);
+        return process::free_shared_user_pagetable(words, tmarks, bytes, fmarks, root, size);
     }
-    release::proc_free_pagetable(words, tmarks, bytes, fmarks, root, size)
+    process::proc_free_pagetable(words, tmarks, bytes, fmarks, root, size)
 }
 
 // What the call that copies says, and writes; where it is none of these, it releases a root.
@@ -170,7 +170,7 @@ fn on_pages(
         return unmap::uvm_clear(words, tmarks, bytes, fmarks, root, VirtualAddress(first));
     }
     if call == 10 {
-        return grow::uvm_dealloc(words, tmarks, bytes, fmarks, root, first, second);
+        return shrink::uvm_dealloc(words, tmarks, bytes, fmarks, root, first, second);
     }
     if call == 11 {
         return loaded(row, words, tmarks, bytes, fmarks, lent);
@@ -203,10 +203,10 @@ fn on_store(
     }
     if call == 6 {
         let va = VirtualAddress(rows::argument(row, 1));
-        return walk::pgt_translate(words, tmarks, bytes, fmarks, root, va);
+        return translate::pgt_translate(words, tmarks, bytes, fmarks, root, va);
     }
     if call == 7 {
-        return walk::as_satp(words, tmarks, bytes, fmarks, root);
+        return translate::as_satp(words, tmarks, bytes, fmarks, root);
     }
     on_pages(row, words, tmarks, bytes, fmarks, lent)
 }

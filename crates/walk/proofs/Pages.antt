@@ -22,7 +22,6 @@ module _ (s : Store) (z : Sized s) (w : WellFormed s) (r : ℕ) (rr : mark (s .t
       let q : LeafIn (mark (s .fmarks)) m (slotWord (s .words) m) = tr .leaf m l (omega (arith, depth tr r 2 p rr h (omega arith) (two tr m l))) in
       (q .valid, q .small)
 
-
 module _ (s : Store) (z : Sized s) (w : WellFormed s) (r : ℕ) (rr : mark (s .tmarks) r ≡ 1) (p : ℕ) (h : p < 2 ^ 26) where
   pub mapped-word : (resolve s r p ≡ 0 → ⊥) → Mapped s r p
   mapped-word n = omega (arith, word-shape s z w r rr p (omega (arith, top-of p h)) (omega arith) .0)

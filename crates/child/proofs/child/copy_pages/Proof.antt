@@ -6,7 +6,7 @@ use mathlib.Core.Path.{_≡_}
 use native.Mathlib.Omega.{arith}
 use Rattle.child.proofs.ChildLoop.{Copying, start, may-walk, fits, flags-fit, in-pool, frame-small, may-copy, after}
 use Rattle.child.specs.Child.{pageFlags, pageBytes}
-use Rattle.grow.proofs.GrowLoop.{done}
+use Rattle.fresh.proofs.GrowLoop.{done}
 use Rattle.store.specs.Store.{storeOf}
 use Rattle.child.proofs.child.copy_pages.Statement.{statement}
 use Rattle.child.proofs.child.copy_pages.Tie as tie

@@ -4,9 +4,9 @@ use borrow.Author.Needs.{needs}
 use lib.ListN.{length}
 use mathlib.Core.Path.{_≡_}
 use native.Mathlib.Omega.{arith}
-use Rattle.grow.proofs.FreshPages.{growable}
+use Rattle.fresh.proofs.FreshPages.{growable}
 use Rattle.grow.proofs.GrowCode.{page, frame-in, after}
-use Rattle.grow.proofs.GrowLoop.{Growing, start, fits, done}
+use Rattle.fresh.proofs.GrowLoop.{Growing, start, fits, done}
 use Rattle.grow.specs.Grow.{zeroed}
 use Rattle.store.specs.Store.{storeOf}
 use Rattle.grow.proofs.growing.grow_pages.Statement.{statement}

@@ -1,7 +1,7 @@
 -- `grow::init::uvm_init` meets its contract. Assumes nothing.
 use borrow.Author.Needs.{needs}
 use native.Mathlib.Omega.{arith}
-use Rattle.grow.proofs.FrameCode.{frame-length}
+use Rattle.fresh.proofs.FrameCode.{frame-length}
 use Rattle.grow.proofs.InitLaws.{refuse, may-enter, frame-in, done}
 use Rattle.store.specs.Store.{storeOf}
 use Rattle.grow.proofs.init.uvm_init.Statement.{statement}

@@ -4,7 +4,7 @@ use lib.ListN.{length}
 use lib.Seq.{length-take-le}
 use mathlib.Core.Path.{sym}
 use native.Mathlib.Omega.{arith}
-use Rattle.grow.proofs.FrameCode.{frame-padded}
+use Rattle.grow.proofs.PaddedFrame.{frame-padded}
 use Rattle.grow.proofs.init.write_frame.Statement.{statement}
 use Rattle.grow.proofs.init.write_frame.Tie as tie
 

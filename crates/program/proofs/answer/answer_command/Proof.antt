@@ -2,7 +2,7 @@
 use mathlib.Core.Path.{refl}
 use native.Mathlib.Omega.{arith}
 use Rattle.store.specs.declared.Answer.the-variants.{Refused}
-use Rattle.program.specs.Text.{said}
+use Rattle.text.specs.Text.{said}
 use Rattle.program.proofs.Answering.{from-dump}
 use borrow.Author.Needs.{needs}
 use Rattle.program.proofs.answer.answer_command.Statement.{statement}

@@ -4,7 +4,7 @@ use Prim.Native.Nat.{_≤_}
 use native.Mathlib.Omega.{arith}
 use lib.ListN.{length}
 use lib.Seq.{length-take-le}
-use Rattle.program.proofs.Writing.{wrote-whole}
+use Rattle.text.proofs.Writing.{wrote-whole}
 use borrow.Author.Needs.{needs}
 use Rattle.program.proofs.answer.answer_line.Statement.{statement}
 use Rattle.program.proofs.answer.answer_line.Tie as tie

@@ -16,7 +16,7 @@ use Rattle.program.proofs.dump.list_table.Reads as list-table
 use Rattle.program.proofs.dump.list_table.Kinds as list-table-kinds
 use Rattle.program.proofs.dump.+list_entry+list_table.Lts-list_table as list-table-lts
 use Rattle.program.proofs.dump.pointed_table.Reads as pointed-table-reads
-use Rattle.program.proofs.text.put_row.Reads as put-row-reads
+use Rattle.text.proofs.put_row.Reads as put-row-reads
 use Rattle.store.proofs.word_at.Reads as word-at-reads
 use Rattle.program.proofs.dump.+list_entry+list_table.{statement}
 use Rattle.program.proofs.dump.+list_entry+list_table.Tie.{close}

@@ -6,7 +6,7 @@ use Rattle.store.specs.declared.Answer.the-variants.{Refused, Done}
 use Rattle.well_formed.proofs.RootReasons.{root-clear}
 use Rattle.walk.proofs.Calls.{root-in}
 use Rattle.program.specs.Dump.{listed}
-use Rattle.program.proofs.Writing.{wrote-then}
+use Rattle.text.proofs.Writing.{wrote-then}
 use Rattle.program.proofs.Bound.{root-few}
 use borrow.Author.Needs.{needs}
 use Rattle.program.proofs.dump.dump.Statement.{statement}

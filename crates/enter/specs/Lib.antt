@@ -1,0 +1,2 @@
+-- What the contracts of `enter` cite: the store after entering pages.
+pub mod Enter

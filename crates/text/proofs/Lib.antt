@@ -1,0 +1,3 @@
+-- The laws of decimals and of what is written.
+pub mod Writing
+pub mod Decimals
