@@ -14,8 +14,8 @@ use Rattle.page_table_entry.specs.Layout.{bitU, frameOf}
 use Rattle.store.specs.Store.{Store, Sized, mark}
 use Rattle.store.specs.WellFormed.{WellFormed}
 use Rattle.store.specs.Walk.{slotWord, tableOf, slot, entryAt, resolve}
-use Rattle.store.proofs.Tree.{TreeOf, tree-of, LeafIn, two, top, zero-or}
-use Rattle.store.proofs.Walk.{depth, low, page-of}
+use Rattle.store.proofs.Tree.{TreeOf, tree-of, top, zero-or}
+use Rattle.store.proofs.Walk.{low, page-of}
 use Rattle.walk.specs.Mapped.{Mapped}
 use Rattle.translate.specs.Sv39.{Walked, none, leaf, fault, at, Kind, entry, below, judged, walk, canonical, mode, root, finish, translate, memory, satpOf, pageOf, usable, ends, granted, Differs}
 use Rattle.walk.proofs.Pages.{word-shape}
