@@ -44,7 +44,7 @@ module _ (s₀ : Store) (parent child size : ℕ) (c : ChildReady s₀ parent ch
   child-may =
       let r = c .at-child in
       growable s₀ child 0 (size / 4096)
-      (record { asked = record { sized = r .sized; formed = r .formed; is-root = r .is-root; pages = omega (arith, c .small) }; ready = c .fresh })
+      (record { asked = record { at-root = r; pages = omega (arith, c .small) }; ready = c .fresh })
 
   pub fillable : (x : ℕ) → x < size / 4096 → Fillable (q x) (b x)
   fillable x l = (omega (arith, c .mapped x l), omega arith, bytes-length s₀ parent (4096 * x) 4096)

@@ -6,10 +6,9 @@ use native.Mathlib.Omega.{arith}
 use Rattle.store.specs.Store.{Store, mark}
 use Rattle.store.specs.Outcome.{NoReason, Judges}
 use Rattle.store.proofs.Outcomes.{judges-no, then-judged, JustThen, just-from, just-found, just-passed}
-use Rattle.well_formed.specs.Root.{RootReason, sizes, unformed, no-root, RootReady}
+use Rattle.well_formed.specs.Root.{RootReason, sizes, unformed, no-root, RootReady, Asked}
 use Rattle.well_formed.proofs.RootReasons.{root-upto, root-clear}
 use Rattle.walk.proofs.Calls.{root-in}
-use Rattle.unmap.specs.Leave.{Asked}
 use Rattle.fresh.specs.Fresh.{FreshReason, taken, no-frames, no-tables}
 use Rattle.fresh.proofs.FreshReasons.{fresh-clear}
 use Rattle.child.specs.Child.{ChildReason, at-parent, at-child, same, too-large, unaligned, unmapped, foreign, fresh, ChildReady}
@@ -132,13 +131,16 @@ module _ (s : Store) (parent child size : ℕ) where
           pub may-count : (child < 512) × (parent < 512) × (size / 4096 ≤ 2 ^ 26)
           may-count = (root-in s child (r .sized) c, root-in s parent (r .sized) (r .is-root), omega arith)
 
+          at-child₀ : RootReady s child
+          at-child₀ = record { sized = r .sized; formed = r .formed; is-root = c }
+
           pub asked : Asked s child 0 (size / 4096 - 0) × (0 ≤ size / 4096)
-          asked = (record { sized = r .sized; formed = r .formed; is-root = c; pages = omega arith }, omega arith)
+          asked = (record { at-root = at-child₀; pages = omega arith }, omega arith)
 
           pub by-pages : size % 4096 ≡ 0 → (n : ℕ) → Judges Pages (PagesReady s parent child (size / 4096)) n → Judges R F n
           by-pages y n q =
               let ready : PagesReady s parent child (size / 4096) → F =
-              λ g. record { at-parent = r; at-child = record { sized = r .sized; formed = r .formed; is-root = c }; apart = a; small = z; aligned = y; mapped = g .0; pool = g .1; fresh = g .2 } in
+              λ g. record { at-parent = r; at-child = at-child₀; apart = a; small = z; aligned = y; mapped = g .0; pool = g .1; fresh = g .2 } in
               to7 n (then-judged F (λ k x. x) (λ k. inr) (λ k x. x .1 y) ready n q)
 
   -- where the call is ready no reason applies

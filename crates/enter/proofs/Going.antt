@@ -26,8 +26,9 @@ start s r p n e c =
     let a : p ≡ p + 0 = omega arith in
     let b : e ≡ e + 1024 * 0 = omega arith in
     let k : n ≡ n - 0 = omega arith in
+    let q = c .at-root in
     let f : Ready n s r p e =
-    record { sized = c .sized; tree = tree-of s (c .sized) (c .formed); root = c .is-root; range = c .pages; unmapped = c .unmapped; plain = c .plain } in
+    record { sized = q .sized; tree = tree-of s (q .sized) (q .formed); root = q .is-root; range = c .pages; unmapped = c .unmapped; plain = c .plain } in
     record {
       within = omega arith;
       ready = subst (λ (x : ℕ). Ready (n - 0) s r x (e + 1024 * 0)) a (subst (λ (x : ℕ). Ready (n - 0) s r p x) b (subst (λ (x : ℕ). Ready x s r p e) k f));

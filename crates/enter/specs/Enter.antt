@@ -3,10 +3,11 @@ use mathlib.Core.Path.{_≡_}
 use mathlib.Core.List.{List, []}
 use Prim.Native.Nat.{ℕ, zero, suc, _+_, _*_, _/_, _%_, _^_, _≤_, _<_}
 use lib.ListN.{length, set}
-use Rattle.store.specs.Store.{Store, storeOf, Sized, mark, pointerTo, frameNo}
-use Rattle.store.specs.WellFormed.{Outside, WellFormed}
+use Rattle.store.specs.Store.{Store, storeOf, pointerTo, frameNo}
+use Rattle.store.specs.WellFormed.{Outside}
 use Rattle.store.specs.Count.{lowest, freeTables}
 use Rattle.store.specs.Walk.{slotWord, slot, resolve}
+use Rattle.well_formed.specs.Root.{RootReady}
 use Rattle.walk.specs.Missing.{missing}
 
 -- the words with v in slot m, which is word m - 2; slots 0 and 1 are no words
@@ -54,9 +55,7 @@ pub record Plain (e : ℕ) : Type 0 where
 
 -- what entering those pages needs
 pub record CanEnter (s : Store) (r p n e : ℕ) : Type 0 where
-  pub sized : Sized s
-  pub formed : WellFormed s
-  pub is-root : mark (s .tmarks) r ≡ 1
+  pub at-root : RootReady s r
   pub pages : (i : ℕ) → i < n → p + i < 2 ^ 26
   pub unmapped : (i : ℕ) → i < n → resolve s r (p + i) ≡ 0
   pub plain : (i : ℕ) → i < n → Plain (e + 1024 * i)

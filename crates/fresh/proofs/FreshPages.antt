@@ -33,15 +33,15 @@ pub record Growable (n : ℕ) (s : Store) (r p : ℕ) : Type 0 where
 -- what the judge showed is enough
 pub growable : (s : Store) (r p n : ℕ) → CanFresh s r p n → Growable n s r p
 growable s r p n c =
-    let a = c .asked in
+    let a = c .asked .at-root in
     record {
       sized = a .sized;
       tree = tree-of s (a .sized) (a .formed);
       root = a .is-root;
-      range = λ i l. omega (arith, a .pages);
+      range = λ i l. omega (arith, c .asked .pages);
       unmapped = λ i l.
           by-cases (decLt 0 (resolve s r (p + i)))
-          (λ q. absurd (c .ready .unmapped i l (mapped-word s (a .sized) (a .formed) r (a .is-root) (p + i) (omega (arith, a .pages)) (λ e. omega arith)))) (λ m. omega arith);
+          (λ q. absurd (c .ready .unmapped i l (mapped-word s (a .sized) (a .formed) r (a .is-root) (p + i) (omega (arith, c .asked .pages)) (λ e. omega arith)))) (λ m. omega arith);
       frames = c .ready .frames;
       tables = c .ready .tables;
     }

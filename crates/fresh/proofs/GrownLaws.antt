@@ -15,7 +15,7 @@ use Rattle.store.proofs.Tree.{top, well-formed-of}
 use Rattle.walk.specs.Missing.{missing}
 use Rattle.walk.proofs.MissingLaws.{missing-none}
 use Rattle.enter.proofs.EnterPage.{part}
-use Rattle.unmap.specs.Leave.{Asked}
+use Rattle.well_formed.specs.Root.{Asked}
 use Rattle.fresh.specs.Fill.{poolEntry}
 use Rattle.fresh.specs.Fresh.{FreshReason, taken, no-frames, no-tables, FreshReady, freshPage, freshPages}
 use Rattle.fresh.specs.Grown.{FreshAt, FrameKept, Grown}

@@ -9,7 +9,7 @@ use Rattle.store.specs.Walk.{slotWord, slot}
 use Rattle.walk.specs.Mapped.{Mapped}
 use Rattle.walk.specs.Missing.{missing}
 use Rattle.enter.specs.Enter.{putSlot, tabled, Hangable}
-use Rattle.unmap.specs.Leave.{Asked}
+use Rattle.well_formed.specs.Root.{Asked}
 use Rattle.fresh.specs.Fill.{poolEntry, framed, filled}
 
 -- Pages p .. p + n - 1 of root r.

@@ -4,7 +4,7 @@ ghost use lib.ListN.{length};
 ghost use Rattle.store.specs.Count.{lowest};
 ghost use Rattle.store.specs.Outcome.{Judges};
 ghost use Rattle.store.specs.Store.{storeOf};
-ghost use Rattle.unmap.specs.Leave.{Asked};
+ghost use Rattle.well_formed.specs.Root.{Asked};
 ghost use Rattle.fresh.specs.Fresh.{FreshReason, FreshReady, FrameFits, FrameEntered, FrameTaken};
 
 // 14, 16 or 17, or 0, for the pages from first up to end.

@@ -16,7 +16,8 @@ use Rattle.store.specs.Walk.{resolve}
 use Rattle.store.specs.Outcome.{NoReason}
 use Rattle.store.specs.declared.Answer.{Answer}
 use Rattle.store.specs.declared.Answer.the-variants.{Refused, Done}
-use Rattle.unmap.specs.Leave.{PoolFrame, Asked}
+use Rattle.well_formed.specs.Root.{RootReady, Asked}
+use Rattle.unmap.specs.Leave.{PoolFrame}
 use Rattle.unmap.specs.Gone.{poolPages, Gone}
 use Rattle.unmap.proofs.LeavePage.{pool-one}
 use Rattle.shrink.specs.Sizes.{pagesTo, too-large}
@@ -59,10 +60,13 @@ module _ (s : Store) (root old new : ℕ) (a : Asked s root (pagesTo old) (gaine
   pool : (i : ℕ) → i < n → PoolFrame s₁ (resolve s₁ root (p + i))
   pool i l = let y = g .fresh i l in record { frame = y .frame; there = omega (arith, y .there, g .pool); number = omega (arith, y .entry) }
 
+  at-root₁ : RootReady s₁ root
+  at-root₁ = record { sized = g .sized; formed = g .well-formed; is-root = g .roots root .0 (a .at-root .is-root) }
+
   ready : ShrinkReady s₁ root new old
   ready = record {
     sizes = record {
-      at-root = record { sized = g .sized; formed = g .well-formed; is-root = g .roots root .0 (a .is-root) };
+      at-root = at-root₁;
       old-small = by-cases (decLt (2 ^ 38) new) (λ l. absurd (u .0 6 (sizes (too-large (inr l))))) (λ l. omega arith);
       new-small = by-cases (decLt (2 ^ 38) old) (λ l. absurd (u .0 6 (sizes (too-large (inl l))))) (λ l. omega arith);
     };
@@ -114,5 +118,5 @@ module _ (s : Store) (root old new : ℕ) (a : Asked s root (pagesTo old) (gaine
   grown-back h (Refused k) s₂ x = absurd (back-taken k (x .0 .applies))
   grown-back h (Done w) s₂ x = (
     ap Done (x .1 .0 ∙ answer old new h),
-    back s₂ (shrink-gone s₁ root new old w s₂ (record { sized = g .sized; formed = g .well-formed; is-root = g .roots root .0 (a .is-root); pages = a .pages }) x),
+    back s₂ (shrink-gone s₁ root new old w s₂ (record { at-root = at-root₁; pages = a .pages }) x),
   )

@@ -10,7 +10,7 @@ use Rattle.store.specs.Outcome.{Judges}
 use Rattle.store.specs.declared.Answer.{Answer}
 use Rattle.store.specs.declared.Answer.the-variants.{Refused, Done}
 use Rattle.store.proofs.Outcomes.{one-outcome}
-use Rattle.unmap.specs.Leave.{Asked}
+use Rattle.well_formed.specs.Root.{Asked}
 use Rattle.shrink.specs.Sizes.{pagesTo}
 use Rattle.fresh.specs.Fresh.{freshPages, CanFresh}
 use Rattle.grow.specs.Grow.{gained, GrowReason, pages, GrowReady, zeroed, GrowDone, Grow}

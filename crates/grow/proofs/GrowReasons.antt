@@ -6,7 +6,7 @@ use native.Mathlib.Omega.{arith}
 use Rattle.store.specs.Store.{Store}
 use Rattle.store.specs.Outcome.{NoReason, Judges}
 use Rattle.store.proofs.Outcomes.{judges-ok, first-no, then-judged}
-use Rattle.unmap.specs.Leave.{Asked}
+use Rattle.well_formed.specs.Root.{Asked}
 use Rattle.shrink.specs.Sizes.{pagesTo, SizeReason, SizeReady}
 use Rattle.fresh.specs.Fresh.{FreshReason, FreshReady}
 use Rattle.grow.specs.Grow.{gained, GrowReason, sizes, pages, GrowReady}
@@ -30,7 +30,7 @@ module _ (s : Store) (root old new : ℕ) where
   -- the judge of pages is asked about those from first up to end
   module _ (z : SizeReady s root old new) (first end : ℕ) (ef : first ≡ pagesTo old) (ee : end ≡ pagesTo new) where
     pub asked : first < end → Asked s root first (end - first) × (first ≤ end)
-    asked h = let r = z .at-root in (record { sized = r .sized; formed = r .formed; is-root = r .is-root; pages = omega (arith, ee, z .new-small) }, omega arith)
+    asked h = let r = z .at-root in (record { at-root = r; pages = omega (arith, ee, z .new-small) }, omega arith)
 
     pub by-pages : (n : ℕ) → Judges (FreshReason s root first (end - first)) (FreshReady s root first (end - first)) n → Judges R F n
     by-pages n q =

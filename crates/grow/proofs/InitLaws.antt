@@ -14,7 +14,7 @@ use Rattle.store.specs.declared.Answer.{Answer}
 use Rattle.store.specs.declared.Answer.the-variants.{Refused, Done}
 use Rattle.store.proofs.Outcomes.{one-outcome}
 use Rattle.enter.proofs.Hang.{lowest-free}
-use Rattle.unmap.specs.Leave.{Asked}
+use Rattle.well_formed.specs.Root.{Asked}
 use Rattle.fresh.specs.Fresh.{freshPages, FrameFits, FrameEntered}
 use Rattle.grow.specs.Init.{InitReason, too-long, page, InitReady, padded, InitDone, Init}
 use Rattle.fresh.specs.Grown.{Grown}

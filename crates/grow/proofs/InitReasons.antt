@@ -8,9 +8,8 @@ use lib.ListN.{length}
 use Rattle.store.specs.Store.{Store}
 use Rattle.store.specs.Outcome.{NoReason, Judges}
 use Rattle.store.proofs.Outcomes.{Just, first-no, then-judged, just-no}
-use Rattle.well_formed.specs.Root.{RootReason, RootReady}
+use Rattle.well_formed.specs.Root.{RootReason, RootReady, Asked}
 use Rattle.well_formed.proofs.RootReasons.{root-upto, root-clear}
-use Rattle.unmap.specs.Leave.{Asked}
 use Rattle.fresh.specs.Fresh.{FreshReason, FreshReady}
 use Rattle.grow.specs.Init.{InitReason, at-root, too-long, page, InitReady}
 use Rattle.fresh.proofs.FreshReasons.{fresh-range, fresh-clear}
@@ -48,7 +47,7 @@ module _ (s : Store) (root : ℕ) (src : List ℕ) where
         (first-no F (λ k x. x) (λ k. inl) (λ j k a b. omega (arith, a .0, fresh-range b)) 5 (omega arith) (just-no 5 (4096 ≤ length src) F (omega arith) h .reason (omega arith)))
 
     pub asked : Asked s root 0 (1 - 0)
-    asked = record { sized = r .sized; formed = r .formed; is-root = r .is-root; pages = omega arith }
+    asked = record { at-root = r; pages = omega arith }
 
     pub by-page : length src < 4096 → (n : ℕ) → Judges (FreshReason s root 0 1) (FreshReady s root 0 1) n → Judges R F n
     by-page h n q =

@@ -70,7 +70,7 @@ module _ (s : Store) (root va pa size perm : ℕ) where
         can-enter =
             let x = ready s root (firstPage va) n (pa / 4096) perm (fit s root va pa size perm f) (room s root va pa size perm f) in
             let c : CanEnter s root (firstPage va) n (entryOf (4096 * (pa / 4096)) perm) =
-            record { sized = f .at-root .sized; formed = f .at-root .formed; is-root = f .at-root .is-root; pages = x .range; unmapped = x .unmapped; plain = x .plain; tables = f .enough } in
+            record { at-root = f .at-root; pages = x .range; unmapped = x .unmapped; plain = x .plain; tables = f .enough } in
             let k : n ≡ end - first = omega arith in
             subst (CanEnter s root first (end - first)) (sym is)
             (subst (λ (p : ℕ). CanEnter s root p (end - first) (entryOf (4096 * (pa / 4096)) perm)) (sym ef)

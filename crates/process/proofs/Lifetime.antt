@@ -16,12 +16,11 @@ use Rattle.store.specs.Owners.{Below}
 use Rattle.store.specs.declared.Answer.{Answer}
 use Rattle.store.specs.declared.Answer.the-variants.{Refused, Done}
 use Rattle.store.proofs.Tree.{tree-of}
-use Rattle.well_formed.specs.Root.{RootReady}
+use Rattle.well_formed.specs.Root.{RootReady, Asked}
 use Rattle.walk.specs.Missing.{missing}
 use Rattle.walk.proofs.Pages.{word-mapped}
 use Rattle.map.specs.Create.{no-table, rooted, Create, Created}
 use Rattle.map.proofs.CreateLaws.{create-creates}
-use Rattle.unmap.specs.Leave.{Asked}
 use Rattle.unmap.specs.Unmap.{UnmapReady, Unmap}
 use Rattle.unmap.specs.Gone.{Gone}
 use Rattle.unmap.proofs.LeavePages.{leavable}
@@ -98,7 +97,7 @@ module _ (s : Store) (z : Sized s) (c : WellFormed s) (t : ℕ) (s₁ : Store) (
   small = by-cases (decLt (2 ^ 38) n) (λ l. absurd (u .0 6 (sizes (too-large (inr l))))) (λ l. omega arith)
 
   asked : Asked s₁ t (pagesTo 0) (gained 0 n)
-  asked = record { sized = made .sized; formed = made .well-formed; is-root = made .is-root; pages = omega (arith, small) }
+  asked = record { at-root = record { sized = made .sized; formed = made .well-formed; is-root = made .is-root }; pages = omega (arith, small) }
 
   g : Grown s₁ t (pagesTo 0) (gained 0 n) (λ _. 31) (λ _. zeroed) s₂
   g = grow-grown s₁ t 0 n v s₂ asked u
@@ -168,7 +167,7 @@ module _ (s : Store) (z : Sized s) (c : WellFormed s) (t : ℕ) (s₁ : Store) (
 
   module _ (k : ℕ) (e : n ≡ k) where
     asked₂ : Asked s₂ t (0 / 4096) (pagesTo k)
-    asked₂ = record { sized = g .sized; formed = g .well-formed; is-root = ready₂ .is-root; pages = omega (arith, small) }
+    asked₂ = record { at-root = ready₂; pages = omega (arith, small) }
 
     entry : (i : ℕ) → i < pagesTo k → (f : ℕ) × (resolve s₂ t (0 / 4096 + i) ≡ poolEntry f 31)
     entry i l =

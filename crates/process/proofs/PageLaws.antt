@@ -8,8 +8,8 @@ use Rattle.store.specs.Store.{Store}
 use Rattle.store.specs.Outcome.{Judges}
 use Rattle.store.specs.declared.Answer.{Answer}
 use Rattle.store.specs.declared.Answer.the-variants.{Refused, Done}
-use Rattle.well_formed.specs.Root.{RootReady}
-use Rattle.unmap.specs.Leave.{LeaveReason, LeaveReady, leavePages, Asked, CanLeave}
+use Rattle.well_formed.specs.Root.{RootReady, Asked}
+use Rattle.unmap.specs.Leave.{LeaveReason, LeaveReady, leavePages, CanLeave}
 use Rattle.unmap.specs.Unmap.{UnmapReason, UnmapReady}
 use Rattle.unmap.proofs.UnmapReasons.{by-pages}
 use Rattle.unmap.proofs.UnmapLaws.{refuse, may-leave, left-done}
@@ -68,7 +68,7 @@ module _ (s : Store) (root size k : ℕ) (j : Judges (UnmapReason s root trampol
     shared-judged m r = page-then root trampoline refl (UvmFree root size) s can (RestReady root size) m (r s₁ cut)
 
     pub can-ask : Asked s root (trapframe / 4096) 1
-    can-ask = record { sized = can .asked .sized; formed = can .asked .formed; is-root = can .asked .is-root; pages = omega arith }
+    can-ask = record { at-root = can .asked .at-root; pages = omega arith }
 
     -- ---- and then TRAPFRAME by l, on the store as it is
 

@@ -8,8 +8,8 @@ use Rattle.store.specs.Store.{Store}
 use Rattle.store.specs.Walk.{resolve}
 use Rattle.store.specs.declared.Answer.{Answer}
 use Rattle.store.specs.declared.Answer.the-variants.{Refused, Done}
-use Rattle.well_formed.specs.Root.{RootReady}
-use Rattle.unmap.specs.Leave.{PoolFrame, pooled, Asked}
+use Rattle.well_formed.specs.Root.{RootReady, Asked}
+use Rattle.unmap.specs.Leave.{PoolFrame, pooled}
 use Rattle.unmap.specs.Unmap.{too-high, pages, Unmap}
 use Rattle.unmap.proofs.UnmapReasons.{within}
 use Rattle.unmap.proofs.UnmapLaws.{one-unmap, unmap-gone}
@@ -73,7 +73,7 @@ one-proc-free root size =
 -- pages have left, and then the root has gone
 module _ (s : Store) (root va n : ℕ) (freeing : Bool) (some : 0 < n) (r : RootReady s root) (x : ℕ) (s₁ : Store) (u : Unmap s root va n freeing (Done x) s₁) where
   asked : Asked s root (va / 4096) n
-  asked = record { sized = r .sized; formed = r .formed; is-root = r .is-root; pages = within (va / 4096) n some (λ h. u .0 6 (too-high h)) }
+  asked = record { at-root = r; pages = within (va / 4096) n some (λ h. u .0 6 (too-high h)) }
 
   foreign : freeing ≡ false → (i : ℕ) → i < n → PoolFrame s (resolve s root (va / 4096 + i)) → ⊥
   foreign b i l m = u .0 10 (pages (pooled (b, i, l, m)))

@@ -15,14 +15,14 @@ use Rattle.store.specs.Walk.{resolve}
 use Rattle.store.specs.Outcome.{Judges}
 use Rattle.store.specs.declared.Answer.the-variants.{Refused, Done}
 use Rattle.store.proofs.Outcomes.{judges-no}
-use Rattle.well_formed.specs.Root.{RootReady}
+use Rattle.well_formed.specs.Root.{RootReady, Asked}
 use Rattle.walk.specs.Mapped.{Mapped}
 use Rattle.walk.specs.Missing.{entryIn}
 use Rattle.walk.specs.Ranges.{PagesAlike}
 use Rattle.walk.proofs.Counts.{one-has, none-has}
 use Rattle.walk.proofs.Calls.{root-in}
 use Rattle.walk.proofs.Pages.{counted-mapped, mapped-counted}
-use Rattle.unmap.specs.Leave.{LeaveReason, pooled, unmapped, bare, LeaveReady, leavePages, Asked, CanLeave}
+use Rattle.unmap.specs.Leave.{LeaveReason, pooled, unmapped, bare, LeaveReady, leavePages, CanLeave}
 use Rattle.unmap.specs.Unmap.{Unmap}
 use Rattle.unmap.specs.Gone.{Gone}
 use Rattle.unmap.proofs.UnmapReasons.{no-6, by-pages}
@@ -48,7 +48,7 @@ module _ (root size : ℕ) (s : Store) (c : CanLeave s root 0 (pagesTo size) tru
   have-gone = pages-gone (pagesTo size) s root 0 true (leavable s root 0 (pagesTo size) true c)
 
   root-stays : RootReady (left root size s) root
-  root-stays = still-root s root 0 (pagesTo size) true (left root size s) (c .asked .is-root) have-gone
+  root-stays = still-root s root 0 (pagesTo size) true (left root size s) (c .asked .at-root .is-root) have-gone
 
   -- the first of the two parts
   first-done : Unmap s root 0 (pagesTo size) true (Done 0) (left root size s)
@@ -129,7 +129,7 @@ module _ (s : Store) (root size top : ℕ) (t : Store) (c : Cut s root top t) wh
       module _ (f : LeaveReady s root 0 (pagesTo size) true) (n : ℕ) (count : PagesAlike (s .words) root (pagesTo size) top 1 1 n) where
         can : CanLeave t root 0 (pagesTo size) true
         can = record {
-          asked = record { sized = c .at-root .sized; formed = c .at-root .formed; is-root = c .at-root .is-root; pages = omega arith };
+          asked = record { at-root = c .at-root; pages = omega arith };
           ready = ready-same same true f;
         }
 
@@ -175,7 +175,7 @@ module _ (s : Store) (root size top : ℕ) (high : top ≤ 2 ^ 26) where
 
     module _ (h : n ≤ top) where
       pub can-ask : RootReady s root → Asked s root 0 (n - 0) × (0 ≤ n)
-      can-ask r = (record { sized = r .sized; formed = r .formed; is-root = r .is-root; pages = omega arith }, omega arith)
+      can-ask r = (record { at-root = r; pages = omega arith }, omega arith)
 
       pub can-count : RootReady s root → (root < 512) × (n ≤ top) × (top ≤ 2 ^ 26) × (0 < 1)
       can-count r = (root-in s root (r .sized) (r .is-root), h, high, omega arith)

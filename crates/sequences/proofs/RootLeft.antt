@@ -13,14 +13,14 @@ use Rattle.store.specs.Store.{Store, Sized}
 use Rattle.store.specs.WellFormed.{Outside}
 use Rattle.store.specs.Outcome.{NoReason}
 use Rattle.store.specs.declared.Answer.the-variants.{Done}
-use Rattle.well_formed.specs.Root.{RootReady}
+use Rattle.well_formed.specs.Root.{RootReady, Asked}
 use Rattle.map.specs.Map.{Map}
 use Rattle.map.specs.Numbers as range
 use Rattle.map.specs.Reasons.{MapReason, numbers}
 use Rattle.map.specs.Demand3.{Fit}
 use Rattle.map.proofs.Entered.{outside-of}
 use Rattle.map.proofs.Demand3.{demand-3}
-use Rattle.unmap.specs.Leave.{Asked, leavePages}
+use Rattle.unmap.specs.Leave.{leavePages}
 use Rattle.unmap.specs.Unmap as unmap
 use Rattle.unmap.specs.Clear as clear
 use Rattle.unmap.specs.Gone.{Gone}
@@ -95,7 +95,7 @@ unfolding leavePages
 unmap-kept s root va zero freeing v s′ u r = subst (KeptSound s) (sym (u .1 .1)) (record { sound = record { sized = r .sized; formed = r .formed }; tables = refl; frames = refl })
 unmap-kept s root va (suc n) freeing v s′ u r =
     let a : Asked s root (va / 4096) (suc n) =
-    record { sized = r .sized; formed = r .formed; is-root = r .is-root; pages = within (va / 4096) (suc n) (omega arith) (λ h. u .0 6 (unmap.too-high h)) } in
+    record { at-root = r; pages = within (va / 4096) (suc n) (omega arith) (λ h. u .0 6 (unmap.too-high h)) } in
     kept-gone (r .sized) (unmap-gone s root va (suc n) freeing v s′ a u)
 
 pub unmap-left : (s : Store) (root va n : ℕ) (freeing : Bool) (v : ℕ) (s′ : Store) → unmap.Unmap s root va n freeing (Done v) s′ → Left s s′
@@ -111,7 +111,7 @@ clear-left s root va v s′ u = left-at s root (clear.ClearReason s root va) cle
 
 pub init-left : (s : Store) (root : ℕ) (src : List ℕ) (v : ℕ) (s′ : Store) → init.Init s root src (Done v) s′ → Left s s′
 init-left s root src v s′ u = left-at s root (init.InitReason s root src) (λ k. init.at-root) (u .0) s′ (λ r.
-    kept-grown (init-grown s root src v s′ (record { sized = r .sized; formed = r .formed; is-root = r .is-root; pages = omega arith }) u)
+    kept-grown (init-grown s root src v s′ (record { at-root = r; pages = omega arith }) u)
     (ap (λ (t : Store). length (t .tmarks)) (u .1 .1) ∙ fresh-table s root 0 31 (init.padded src)))
 
 -- both sizes are at most 2 ^ 38 where none is too large
@@ -125,14 +125,14 @@ pub grow-left : (s : Store) (root old new v : ℕ) (s′ : Store) → grow.Grow 
 grow-left s root old new v s′ u = left-at s root (grow.GrowReason s root old new) (λ k h. grow.sizes (at-root h)) (u .0) s′ (λ r.
     let z = small s root old new (λ k h. u .0 k (grow.sizes h)) in
     let h : pagesTo old + grow.gained old new ≤ 2 ^ 26 = omega (arith, z .0, z .1) in
-    kept-grown (grow-grown s root old new v s′ (record { sized = r .sized; formed = r .formed; is-root = r .is-root; pages = h }) u)
+    kept-grown (grow-grown s root old new v s′ (record { at-root = r; pages = h }) u)
     (ap (λ (t : Store). length (t .tmarks)) (u .1 .1) ∙ fresh-tables (grow.gained old new) s root (pagesTo old) (λ _. 31) (λ _. grow.zeroed)))
 
 pub shrink-left : (s : Store) (root old new v : ℕ) (s′ : Store) → shrink.Shrink s root old new (Done v) s′ → Left s s′
 shrink-left s root old new v s′ u = left-at s root (shrink.ShrinkReason s root old new) (λ k h. shrink.sizes (at-root h)) (u .0) s′ (λ r.
     let z = small s root old new (λ k h. u .0 k (shrink.sizes h)) in
     let h : pagesTo new + shrink.lost old new ≤ 2 ^ 26 = omega (arith, z .0, z .1) in
-    kept-gone (r .sized) (shrink-gone s root old new v s′ (record { sized = r .sized; formed = r .formed; is-root = r .is-root; pages = h }) u))
+    kept-gone (r .sized) (shrink-gone s root old new v s′ (record { at-root = r; pages = h }) u))
 
 -- ---- copy_out and uvm_copy
 

@@ -9,7 +9,8 @@ use Rattle.store.specs.Outcome.{Judges}
 use Rattle.store.specs.declared.Answer.{Answer}
 use Rattle.store.specs.declared.Answer.the-variants.{Refused, Done}
 use Rattle.store.proofs.Outcomes.{one-outcome}
-use Rattle.unmap.specs.Leave.{leavePages, Asked, CanLeave}
+use Rattle.well_formed.specs.Root.{Asked}
+use Rattle.unmap.specs.Leave.{leavePages, CanLeave}
 use Rattle.unmap.specs.Gone.{Gone}
 use Rattle.unmap.proofs.GoneLaws.{left-gone}
 use Rattle.shrink.specs.Sizes.{pagesTo}

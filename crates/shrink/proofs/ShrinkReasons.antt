@@ -7,7 +7,8 @@ use native.Mathlib.Omega.{arith}
 use Rattle.store.specs.Store.{Store}
 use Rattle.store.specs.Outcome.{NoReason, Judges}
 use Rattle.store.proofs.Outcomes.{judges-ok, first-no, then-judged}
-use Rattle.unmap.specs.Leave.{Asked, LeaveReason, LeaveReady}
+use Rattle.well_formed.specs.Root.{Asked}
+use Rattle.unmap.specs.Leave.{LeaveReason, LeaveReady}
 use Rattle.unmap.proofs.UnmapReasons.{leave-range, leave-clear, leave-none}
 use Rattle.shrink.specs.Sizes.{pagesTo, SizeReason, SizeReady}
 use Rattle.shrink.specs.Shrink.{lost, ShrinkReason, sizes, pages, ShrinkReady}
@@ -30,7 +31,7 @@ module _ (s : Store) (root old new : ℕ) where
   -- the judge of pages is asked about those from first up to end
   module _ (z : SizeReady s root old new) (first end : ℕ) (ef : first ≡ pagesTo new) (ee : end ≡ pagesTo old) where
     pub asked : first < end → Asked s root first (end - first) × (first ≤ end)
-    asked h = let r = z .at-root in (record { sized = r .sized; formed = r .formed; is-root = r .is-root; pages = omega (arith, ee, z .old-small) }, omega arith)
+    asked h = let r = z .at-root in (record { at-root = r; pages = omega (arith, ee, z .old-small) }, omega arith)
 
     pub by-pages : (n : ℕ) → Judges (LeaveReason s root first (end - first) true) (LeaveReady s root first (end - first) true) n → Judges R F n
     by-pages n q =

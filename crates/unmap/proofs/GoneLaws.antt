@@ -13,7 +13,8 @@ use Rattle.store.specs.Count.{freeFrames}
 use Rattle.store.specs.Walk.{resolve}
 use Rattle.store.specs.Outcome.{NoReason}
 use Rattle.store.proofs.Tree.{top, well-formed-of}
-use Rattle.unmap.specs.Leave.{LeaveReason, leavePage, leavePages, Asked}
+use Rattle.well_formed.specs.Root.{Asked}
+use Rattle.unmap.specs.Leave.{LeaveReason, leavePage, leavePages}
 use Rattle.unmap.specs.Gone.{inPool, poolPages, Gone}
 use Rattle.unmap.proofs.LeavePage.{Left}
 use Rattle.unmap.proofs.LeavePages.{Leavable, leavable, first-left, others-may}

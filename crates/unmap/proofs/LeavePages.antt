@@ -163,12 +163,12 @@ module _ (s₀ : Store) (r p n : ℕ) (freeing : Bool) where
 -- what the judge showed is enough
 pub leavable : (s : Store) (r p n : ℕ) (freeing : Bool) → CanLeave s r p n freeing → Leavable n s r p freeing
 leavable s r p n freeing c =
-    let a = c .asked in
+    let a = c .asked .at-root in
     record {
       sized = a .sized;
       tree = tree-of s (a .sized) (a .formed);
       root = a .is-root;
-      range = λ i l. omega (arith, a .pages);
+      range = λ i l. omega (arith, c .asked .pages);
       mapped = λ i l. omega (arith, c .ready .mapped i l);
       foreign = λ f i l q. c .ready .foreign (f, i, l, q);
     }

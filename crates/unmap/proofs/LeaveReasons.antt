@@ -13,7 +13,8 @@ use Rattle.walk.specs.Missing.{entryIn}
 use Rattle.walk.specs.Ranges.{PagesAlike}
 use Rattle.walk.proofs.Counts.{one-has, one-lacks, none-has, all-have}
 use Rattle.walk.proofs.Pages.{counted-mapped, mapped-counted}
-use Rattle.unmap.specs.Leave.{Asked, PoolFrame, MeetsPool, LeaveReason, pooled, unmapped, bare, LeaveReady}
+use Rattle.well_formed.specs.Root.{Asked}
+use Rattle.unmap.specs.Leave.{PoolFrame, MeetsPool, LeaveReason, pooled, unmapped, bare, LeaveReady}
 use Rattle.unmap.proofs.PoolLaws.{pool-counted, counted-pool, counted-bare, bare-counted}
 
 module _ (s : Store) (r p e : ℕ) (a : Asked s r p (e - p)) (l : p ≤ e) (freeing : Bool) where
@@ -37,12 +38,12 @@ module _ (s : Store) (r p e : ℕ) (a : Asked s r p (e - p)) (l : p ≤ e) (free
     pool-met f n =
         let q = one-has g 0xFFFF_FFFF_F800_0000 0x4000_0000 p e c l count (omega arith) in
         let x = after (λ (k : ℕ). PoolFrame s (resolve s r k)) (q .0) (q .1) (q .2)
-        (counted-pool s (a .sized) r (q .0) (a .formed) (a .is-root) (omega (arith, a .pages, q .2)) (q .3)) in
+        (counted-pool s (a .at-root .sized) r (q .0) (a .at-root .formed) (a .at-root .is-root) (omega (arith, a .pages, q .2)) (q .3)) in
         (f, x .0, x .1, x .2)
 
     pub pool-not-met : c ≡ 0 → MeetsPool s r p (e - p) freeing → ⊥
     pool-not-met z (f, i, b, h) =
-        none-has g 0xFFFF_FFFF_F800_0000 0x4000_0000 p e c l count z (p + i) (omega arith) (omega arith) (pool-counted s (a .sized) r (p + i) h)
+        none-has g 0xFFFF_FFFF_F800_0000 0x4000_0000 p e c l count z (p + i) (omega arith) (omega arith) (pool-counted s (a .at-root .sized) r (p + i) h)
 
   -- ---- the reasons in order
 
@@ -69,10 +70,10 @@ module _ (s : Store) (r p e : ℕ) (a : Asked s r p (e - p)) (l : p ≤ e) (free
       pub no-13 : (d ≡ 0 → ⊥) → Judges R F 13
       no-13 n =
           let q = one-has g 1023 1 p e d l bares (omega arith) in
-          let x = after (λ (k : ℕ). flags (resolve s r k) ≡ 1) (q .0) (q .1) (q .2) (counted-bare s (a .sized) r (q .0) (q .3)) in
+          let x = after (λ (k : ℕ). flags (resolve s r k) ≡ 1) (q .0) (q .1) (q .2) (counted-bare s (a .at-root .sized) r (q .0) (q .3)) in
           judges-no R F 13 (omega arith) (record { applies = bare (x .0) (x .1) (x .2); least = least 13 (λ _. f) (λ _. mapped) (λ q. absurd (omega arith)) })
 
       pub all-ready : d ≡ 0 → Judges R F 0
       all-ready z =
           judges-ok R F 0 refl
-          (record { foreign = f; mapped = mapped; full = λ i x b. none-has g 1023 1 p e d l bares z (p + i) (omega arith) (omega arith) (bare-counted s (a .sized) r (p + i) b) })
+          (record { foreign = f; mapped = mapped; full = λ i x b. none-has g 1023 1 p e d l bares z (p + i) (omega arith) (omega arith) (bare-counted s (a .at-root .sized) r (p + i) b) })

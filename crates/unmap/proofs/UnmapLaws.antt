@@ -8,8 +8,8 @@ use Rattle.store.specs.Outcome.{Judges}
 use Rattle.store.specs.declared.Answer.{Answer}
 use Rattle.store.specs.declared.Answer.the-variants.{Refused, Done}
 use Rattle.store.proofs.Outcomes.{one-outcome}
-use Rattle.well_formed.specs.Root.{RootReady}
-use Rattle.unmap.specs.Leave.{leavePages, Asked, CanLeave}
+use Rattle.well_formed.specs.Root.{Asked}
+use Rattle.unmap.specs.Leave.{leavePages, CanLeave}
 use Rattle.unmap.specs.Unmap.{UnmapReason, pages, UnmapReady, UnmapDone, Unmap}
 use Rattle.unmap.specs.Gone.{Gone}
 use Rattle.unmap.proofs.UnmapReasons.{within, clear}
@@ -30,7 +30,7 @@ module _ (s : Store) (root va n : ℕ) (freeing : Bool) where
 
     pub may-leave : (n ≡ 0 → ⊥) → CanLeave s root (va / 4096) n freeing
     may-leave h = record {
-      asked = record { sized = f .at-root .sized; formed = f .at-root .formed; is-root = f .at-root .is-root; pages = within (va / 4096) n (omega arith) (f .below) };
+      asked = record { at-root = f .at-root; pages = within (va / 4096) n (omega arith) (f .below) };
       ready = f .pages;
     }
 
@@ -41,8 +41,7 @@ module _ (s : Store) (root va n : ℕ) (freeing : Bool) where
   pub left-done : va % 4096 ≡ 0 → CanLeave s root (va / 4096) n freeing → Unmap s root va n freeing (Done 0) (leavePages s root (va / 4096) n freeing)
   left-done e c =
       let a = c .asked in
-      let r : RootReady s root = record { sized = a .sized; formed = a .formed; is-root = a .is-root } in
-      done-all (record { at-root = r; below = λ h. omega (arith, h .1, h .2, a .pages); aligned = e; pages = c .ready }) (leavePages s root (va / 4096) n freeing) refl
+      done-all (record { at-root = a .at-root; below = λ h. omega (arith, h .1, h .2, a .pages); aligned = e; pages = c .ready }) (leavePages s root (va / 4096) n freeing) refl
 
   -- what a success means, where pages may be asked about
   pub unmap-gone : (v : ℕ) (s′ : Store) → Asked s root (va / 4096) n → Unmap s root va n freeing (Done v) s′ → Gone s root (va / 4096) n freeing s′

@@ -2,13 +2,13 @@
 use mathlib.Core.Path.{_≡_}
 use mathlib.Core.Bool.{Bool, false, cond}
 use mathlib.Core.List.{List}
-use Prim.Native.Nat.{ℕ, zero, suc, _+_, _-_, _^_, _≤_, _<_}
+use Prim.Native.Nat.{ℕ, zero, suc, _+_, _-_, _<_}
 use lib.Dec.{leb}
 use lib.ListN.{length, set}
 use Rattle.page_table_entry.specs.Layout.{flags}
-use Rattle.store.specs.Store.{Store, storeOf, Sized, mark, frameNo, poolNo}
-use Rattle.store.specs.WellFormed.{WellFormed}
+use Rattle.store.specs.Store.{Store, storeOf, frameNo, poolNo}
 use Rattle.store.specs.Walk.{slotWord, slot, resolve}
+use Rattle.well_formed.specs.Root.{Asked}
 use Rattle.walk.specs.Mapped.{Mapped}
 use Rattle.enter.specs.Enter.{putSlot}
 
@@ -57,13 +57,7 @@ unfoldable pub leavePages : Store → ℕ → ℕ → ℕ → Bool → Store
 leavePages s r p zero freeing = s
 leavePages s r p (suc n) freeing = leavePages (leavePage s r p freeing) r (suc p) n freeing
 
--- where pages may be asked about, and may be taken out
-pub record Asked (s : Store) (r p n : ℕ) : Type 0 where
-  pub sized : Sized s
-  pub formed : WellFormed s
-  pub is-root : mark (s .tmarks) r ≡ 1
-  pub pages : p + n ≤ 2 ^ 26
-
+-- where pages may be taken out
 pub record CanLeave (s : Store) (r p n : ℕ) (freeing : Bool) : Type 0 where
   pub asked : Asked s r p n
   pub ready : LeaveReady s r p n freeing

@@ -4,7 +4,8 @@ ghost use Prim.Native.Nat.{_-_, _^_, _≤_, _<_};
 ghost use Rattle.store.specs.Outcome.{Judges};
 ghost use Rattle.store.specs.Says.{Says};
 ghost use Rattle.store.specs.Store.{storeOf};
-ghost use Rattle.unmap.specs.Leave.{Asked, MeetsPool, LeaveReason, LeaveReady};
+ghost use Rattle.well_formed.specs.Root.{Asked};
+ghost use Rattle.unmap.specs.Leave.{MeetsPool, LeaveReason, LeaveReady};
 ghost use Rattle.unmap.specs.Unmap.{TooHigh, UnmapReason, UnmapReady};
 
 const PAGES: u64 = 1 << 26;

@@ -12,7 +12,7 @@ count-pages-requires : tie.Need-count-pages-requires
 count-pages-requires c κs =
     let a = c .before .before .before .before .args in
     let q = c .before .before .before .before .pre in
-    (root-in (storeOf (a .words .now) (a .tmarks .now) (a .bytes .now) (a .fmarks .now)) (a .root) (q .0 .sized) (q .0 .is-root), q .1, omega (arith, q .0 .pages, q .1), omega arith)
+    (root-in (storeOf (a .words .now) (a .tmarks .now) (a .bytes .now) (a .fmarks .now)) (a .root) (q .0 .at-root .sized) (q .0 .at-root .is-root), q .1, omega (arith, q .0 .pages, q .1), omega arith)
 
 returns : tie.Need-returns
 returns c =
@@ -34,7 +34,7 @@ missing-tables-requires : tie.Need-missing-tables-requires
 missing-tables-requires c κs =
     let a = c .before .before .before .before .before .before .before .before .args in
     let q = c .before .before .before .before .before .before .before .before .pre in
-    (root-in (storeOf (a .words .now) (a .tmarks .now) (a .bytes .now) (a .fmarks .now)) (a .root) (q .0 .sized) (q .0 .is-root), q .1, omega (arith, q .0 .pages, q .1))
+    (root-in (storeOf (a .words .now) (a .tmarks .now) (a .bytes .now) (a .fmarks .now)) (a .root) (q .0 .at-root .sized) (q .0 .at-root .is-root), q .1, omega (arith, q .0 .pages, q .1))
 
 enough-free-requires-2 : tie.Need-enough-free-requires-2
 enough-free-requires-2 c κs = search needs

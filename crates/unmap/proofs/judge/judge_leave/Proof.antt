@@ -21,7 +21,7 @@ count-pages-requires : tie.Need-count-pages-requires
 count-pages-requires c κs =
     let a = c .before .before .before .before .before .before .args in
     let q = c .before .before .before .before .before .before .pre in
-    (root-in (storeOf (a .words .now) (a .tmarks .now) (a .bytes .now) (a .fmarks .now)) (a .root) (q .0 .sized) (q .0 .is-root), q .1, omega (arith, q .0 .pages, q .1), omega arith)
+    (root-in (storeOf (a .words .now) (a .tmarks .now) (a .bytes .now) (a .fmarks .now)) (a .root) (q .0 .at-root .sized) (q .0 .at-root .is-root), q .1, omega (arith, q .0 .pages, q .1), omega arith)
 
 sub-if2 : tie.Need-sub-if2
 sub-if2 c = search needs
@@ -36,7 +36,7 @@ count-pages-requires-2 : tie.Need-count-pages-requires-2
 count-pages-requires-2 c κs =
     let a = c .before .before .before .before .before .before .before .before .args in
     let q = c .before .before .before .before .before .before .before .before .pre in
-    (root-in (storeOf (a .words .now) (a .tmarks .now) (a .bytes .now) (a .fmarks .now)) (a .root) (q .0 .sized) (q .0 .is-root), q .1, omega (arith, q .0 .pages, q .1), omega arith)
+    (root-in (storeOf (a .words .now) (a .tmarks .now) (a .bytes .now) (a .fmarks .now)) (a .root) (q .0 .at-root .sized) (q .0 .at-root .is-root), q .1, omega (arith, q .0 .pages, q .1), omega arith)
 
 returns-3 : tie.Need-returns-3
 returns-3 c =

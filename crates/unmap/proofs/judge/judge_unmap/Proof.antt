@@ -53,7 +53,7 @@ judge-leave-requires c κs =
     let f = c .before .before .before .before .before .before .before .judge-root .ensures .ready (c .before .before .before .before .before .before .if1 .left) in
     let t = no (c .before .before .before .before .too-high .result) (c .before .before .before .if2 .left) (c .before .before .before .before .too-high .ensures) in
     let h = within _ _ (omega (arith, c .if4 .left)) t in
-    (record { sized = f .sized; formed = f .formed; is-root = f .is-root; pages = omega (arith, h) }, omega arith)
+    (record { at-root = f; pages = omega (arith, h) }, omega arith)
 
 returns-5 : tie.Need-returns-5
 returns-5 c =

@@ -15,7 +15,7 @@ count-pages-requires : tie.Need-count-pages-requires
 count-pages-requires c κs =
     let a = c .before .before .before .before .before .args in
     let q = c .before .before .before .before .before .pre in
-    (root-in (storeOf (a .words .now) (a .tmarks .now) (a .bytes .now) (a .fmarks .now)) (a .root) (q .0 .sized) (q .0 .is-root), q .1, omega (arith, q .0 .pages, q .1), omega arith)
+    (root-in (storeOf (a .words .now) (a .tmarks .now) (a .bytes .now) (a .fmarks .now)) (a .root) (q .0 .at-root .sized) (q .0 .at-root .is-root), q .1, omega (arith, q .0 .pages, q .1), omega arith)
 
 returns-2 : tie.Need-returns-2
 returns-2 c =
