@@ -19,7 +19,7 @@ use Rattle.command.specs.declared.command.Command.{Command}
 use Rattle.command.specs.declared.command.Command.the-variants.{New, Map, Find, Dump, Other}
 use Rattle.command.specs.Command.{commandOf}
 use Rattle.text.specs.Text.{said}
-use Rattle.program.specs.Dump as tree
+use Rattle.dump.specs.Dump as tree
 use Rattle.program.specs.Answers.{Ran, Answered}
 use Rattle.program.specs.Lines.{Step, Fed}
 

@@ -1,6 +1,4 @@
 -- The laws that the proofs of `program` cite.
-pub mod Listings
-pub mod Bound
 pub mod Answering
 pub mod WholeLines
 pub mod Readback

@@ -13,7 +13,7 @@ use Rattle.command.specs.declared.command.Command.{Command}
 use Rattle.command.specs.declared.command.Command.the-variants.{New, Map, Find, Dump, Other}
 use Rattle.command.specs.Command.{commandOf}
 use Rattle.text.specs.Text.{said, Wrote}
-use Rattle.program.specs.Dump as tree
+use Rattle.dump.specs.Dump as tree
 
 -- the line of the call's answer, and before it what a dump lists; 99 for any other line
 abbrev pub Ran : Store → Command → List ℕ → Store → Type 0

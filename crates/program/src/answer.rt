@@ -1,5 +1,4 @@
 // What the program prints for a line: the command's call is made, and its answer goes into a lent slice.
-use super::dump;
 use address::PhysicalAddress;
 use address::VirtualAddress;
 use command::Command;

@@ -1,6 +1,5 @@
 // Reads commands from standard input, one a line, and prints what each answers. The store has 8 tables and 8 frames.
 mod answer;
-mod dump;
 
 use libc::STDIN_FILENO;
 use libc::STDOUT_FILENO;

@@ -12,8 +12,8 @@ use Rattle.store.specs.Reached.{child, tablesBelow}
 use Rattle.store.proofs.Scans.{in-range}
 use Rattle.store.proofs.Sums.{sum-le, sum-zero, sum-add, sum-scale, at-most, same-times}
 use Rattle.store.proofs.Reached.{tables-add-up}
-use Rattle.program.specs.Dump.{Row, upward, entry, table, rootRows}
-use Rattle.program.proofs.Listings.{entry-full}
+use Rattle.dump.specs.Dump.{Row, upward, entry, table, rootRows}
+use Rattle.dump.proofs.Listings.{entry-full}
 
 -- the rows are as many as their parts have together
 upward-sum : (f : ℕ → List Row) (n : ℕ) → length (upward f n) ≡ sum (λ i. length (f i)) n

@@ -1,16 +1,16 @@
--- `program::dump::dump` meets its contract. Assumes nothing.
+-- `dump::listing::dump` meets its contract. Assumes nothing.
 use mathlib.Core.Path.{refl}
 use native.Mathlib.Omega.{arith}
 use lib.ListN.{length-append}
 use Rattle.store.specs.declared.Answer.the-variants.{Refused, Done}
 use Rattle.well_formed.proofs.RootReasons.{root-clear}
 use Rattle.walk.proofs.Calls.{root-in}
-use Rattle.program.specs.Dump.{listed}
+use Rattle.dump.specs.Dump.{listed}
 use Rattle.text.proofs.Writing.{wrote-then}
-use Rattle.program.proofs.Bound.{root-few}
+use Rattle.dump.proofs.Bound.{root-few}
 use borrow.Author.Needs.{needs}
-use Rattle.program.proofs.dump.dump.Statement.{statement}
-use Rattle.program.proofs.dump.dump.Tie as tie
+use Rattle.dump.proofs.listing.dump.Statement.{statement}
+use Rattle.dump.proofs.listing.dump.Tie as tie
 
 judge-root-requires : tie.Need-judge-root-requires
 judge-root-requires c κs = search needs

@@ -9,8 +9,8 @@ use lib.ListN.{length, length-append}
 use Rattle.store.specs.Store.{word}
 use Rattle.store.specs.Walk.{tableOf}
 use Rattle.text.specs.Text.{RowWrote, rowText}
-use Rattle.program.specs.Dump.{Row, upward, entry, table, below, entryRows, rowsText, Listed, Room}
-use Rattle.program.specs.declared.dump.Listing.{Listing}
+use Rattle.dump.specs.Dump.{Row, upward, entry, table, below, entryRows, rowsText, Listed, Room}
+use Rattle.dump.specs.declared.listing.Listing.{Listing}
 use Rattle.text.proofs.Writing.{wrote-none, wrote-then}
 
 -- ---- the rows of a table and of an entry

@@ -10,7 +10,7 @@ use Rattle.store.specs.declared.Answer.{Answer}
 use Rattle.store.specs.declared.Answer.the-variants.{Refused, Done}
 use Rattle.well_formed.specs.Root.{RootReason}
 use Rattle.text.specs.Text.{rowText, said, Wrote}
-use Rattle.program.specs.declared.dump.Listing.{Listing}
+use Rattle.dump.specs.declared.listing.Listing.{Listing}
 
 -- a line: level, index, word
 pub record Row : Type 0 where

@@ -4,7 +4,7 @@ ghost use Prim.Native.Nat.{_^_, _≤_, _<_};
 ghost use mathlib.Core.Path.{_≡_};
 ghost use Rattle.store.specs.Walk.{tableOf};
 ghost use Rattle.store.specs.Store.{storeOf};
-ghost use Rattle.program.specs.Dump.{Listed, Room, table, entryRows, Dumped};
+ghost use Rattle.dump.specs.Dump.{Listed, Room, table, entryRows, Dumped};
 
 // Where the text ends, and how many entries are listed.
 pub struct Listing {

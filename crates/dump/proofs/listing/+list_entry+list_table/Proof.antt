@@ -4,22 +4,22 @@ use mathlib.Core.Path.{_≡_, refl, _∙_}
 use native.Mathlib.Omega.{arith}
 use borrow.Author.Needs.{needs}
 use lib.ListN.{length}
-use Rattle.program.specs.Dump.{upward, entryRows, Listed}
-use Rattle.program.proofs.Listings.{upward-none, upward-more, upward-part, table-is, table-upto, entry-none, entry-some, entry-room, below-none, below-more, listed-none, listed-row, listed-then}
+use Rattle.dump.specs.Dump.{upward, entryRows, Listed}
+use Rattle.dump.proofs.Listings.{upward-none, upward-more, upward-part, table-is, table-upto, entry-none, entry-some, entry-room, below-none, below-more, listed-none, listed-row, listed-then}
 use Prim.Native.Nat.{ℕ, _+_, _-_, _<_, _≤_}
 use borrow.Fn.Kinds.{In}
 use borrow.Fn.PlainCycle.{Measures, is, falls, and}
-use Rattle.program.proofs.dump.list_entry.Reads as list-entry
-use Rattle.program.proofs.dump.list_entry.Kinds as list-entry-kinds
-use Rattle.program.proofs.dump.+list_entry+list_table.Lts-list_entry as list-entry-lts
-use Rattle.program.proofs.dump.list_table.Reads as list-table
-use Rattle.program.proofs.dump.list_table.Kinds as list-table-kinds
-use Rattle.program.proofs.dump.+list_entry+list_table.Lts-list_table as list-table-lts
-use Rattle.program.proofs.dump.pointed_table.Reads as pointed-table-reads
+use Rattle.dump.proofs.listing.list_entry.Reads as list-entry
+use Rattle.dump.proofs.listing.list_entry.Kinds as list-entry-kinds
+use Rattle.dump.proofs.listing.+list_entry+list_table.Lts-list_entry as list-entry-lts
+use Rattle.dump.proofs.listing.list_table.Reads as list-table
+use Rattle.dump.proofs.listing.list_table.Kinds as list-table-kinds
+use Rattle.dump.proofs.listing.+list_entry+list_table.Lts-list_table as list-table-lts
+use Rattle.dump.proofs.listing.pointed_table.Reads as pointed-table-reads
 use Rattle.text.proofs.put_row.Reads as put-row-reads
 use Rattle.store.proofs.word_at.Reads as word-at-reads
-use Rattle.program.proofs.dump.+list_entry+list_table.{statement}
-use Rattle.program.proofs.dump.+list_entry+list_table.Tie.{close}
+use Rattle.dump.proofs.listing.+list_entry+list_table.{statement}
+use Rattle.dump.proofs.listing.+list_entry+list_table.Tie.{close}
 
 abbrev μ-list-entry : Measures 2 list-entry-kinds.ps ℕ
 μ-list-entry κs a = a .1 .1 .0 + a .1 .1 .0
