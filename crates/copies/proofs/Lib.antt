@@ -7,7 +7,3 @@ pub mod InOutLaws
 pub mod OneOwner
 pub mod PlaceLaws
 pub mod MovedLaws
-pub mod StrLaws
-pub mod TextCode
-pub mod TextReasons
-pub mod TextLaws

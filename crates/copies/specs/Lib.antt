@@ -1,7 +1,5 @@
--- What the contracts of `copy_in`, `copy_out` and `copy_in_str` cite.
+-- What the contracts of `copy_in` and `copy_out` cite.
 pub mod Bytes
 pub mod Needed
 pub mod InOut
 pub mod Moved
-pub mod Str
-pub mod TextRead

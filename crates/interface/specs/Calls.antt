@@ -16,9 +16,9 @@ use Rattle.grow.specs.Init.{Init}
 use Rattle.grow.specs.Grow.{Grow}
 use Rattle.shrink.specs.Shrink.{Shrink}
 use Rattle.copies.specs.InOut.{In, Out}
-use Rattle.copies.specs.Str.{Str}
+use Rattle.strings.specs.Str.{Str}
 use Rattle.child.specs.Child.{Child}
-use Rattle.copies.specs.declared.StrAnswer.{StrAnswer}
+use Rattle.strings.specs.declared.StrAnswer.{StrAnswer}
 use Rattle.release.specs.Free.{Free}
 use Rattle.process.specs.Parts.{UvmFree, SharedFree, ProcFree}
 use Rattle.replies.specs.Reply.{Replied, StrReplied}

@@ -240,7 +240,7 @@ pub extern "C" fn ronakvesh_copy_in_str(
 ) -> Reply
     ensures { λ r. ⌜ StrReply (storeOf (now (words .entry)) (now (tmarks .entry)) (now (bytes .entry)) (now (fmarks .entry))) root va (now (dst .entry)) r (now (dst .exit)) ⌝ }
 {
-    str_reply(copies::copy_in_str(words, tmarks, bytes, fmarks, root, VirtualAddress(va), dst))
+    str_reply(strings::copy_in_str(words, tmarks, bytes, fmarks, root, VirtualAddress(va), dst))
 }
 
 #[no_mangle]

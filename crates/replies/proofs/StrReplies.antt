@@ -6,9 +6,9 @@ use Prim.Native.Nat.{ℕ}
 use lib.Dec.{ltb}
 use lib.ListN.{length}
 use Rattle.store.specs.Store.{Store}
-use Rattle.copies.specs.Str.{Str, strSaid}
-use Rattle.copies.specs.declared.StrAnswer.the-variants.{Read}
-use Rattle.copies.proofs.StrLaws.{zero-met}
+use Rattle.strings.specs.Str.{Str, strSaid}
+use Rattle.strings.specs.declared.StrAnswer.the-variants.{Read}
+use Rattle.strings.proofs.StrLaws.{zero-met}
 use Rattle.replies.specs.Reply.{replyOf}
 use Rattle.replies.specs.declared.Reply.{Reply}
 

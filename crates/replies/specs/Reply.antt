@@ -4,8 +4,8 @@ use lib.ListN.{getD}
 use Rattle.address.specs.Answer.{Said}
 use Rattle.store.specs.Outcome.{answerSaid}
 use Rattle.store.specs.declared.Answer.{Answer}
-use Rattle.copies.specs.Str.{strSaid}
-use Rattle.copies.specs.declared.StrAnswer.{StrAnswer}
+use Rattle.strings.specs.Str.{strSaid}
+use Rattle.strings.specs.declared.StrAnswer.{StrAnswer}
 use Rattle.replies.specs.declared.Reply.{Reply}
 
 -- of two values a reply has the first

@@ -3,14 +3,14 @@ use super::Reply;
 use address::NumberAnswer;
 use address::PhysicalAnswer;
 use address::VirtualAnswer;
-use copies::StrAnswer;
 use page_table_entry::EntryAnswer;
 use store::Answer;
+use strings::StrAnswer;
 ghost use mathlib.Core.Path.{_≡_};
 ghost use Rattle.address.specs.Answer.{numberSaid, virtualSaid, physicalSaid};
 ghost use Rattle.page_table_entry.specs.Built.{entrySaid};
 ghost use Rattle.store.specs.Outcome.{answerSaid};
-ghost use Rattle.copies.specs.Str.{strSaid};
+ghost use Rattle.strings.specs.Str.{strSaid};
 ghost use Rattle.replies.specs.Reply.{replyOf};
 
 pub fn number_reply(n: NumberAnswer) -> Reply

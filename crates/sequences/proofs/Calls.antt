@@ -32,13 +32,13 @@ use Rattle.grow.proofs.InitLaws.{one-init}
 use Rattle.grow.proofs.GrowLaws.{one-grow}
 use Rattle.shrink.proofs.ShrinkLaws.{one-shrink}
 use Rattle.copies.specs.InOut.{In, Out}
-use Rattle.copies.specs.Str.{strSaid, Str}
+use Rattle.strings.specs.Str.{strSaid, Str}
 use Rattle.child.specs.Child.{Child}
-use Rattle.copies.specs.declared.StrAnswer.{StrAnswer}
-use Rattle.copies.specs.declared.StrAnswer.the-variants as str
+use Rattle.strings.specs.declared.StrAnswer.{StrAnswer}
+use Rattle.strings.specs.declared.StrAnswer.the-variants as str
 use Rattle.copies.proofs.InOutLaws.{one-in, one-out}
 use Rattle.copies.proofs.MovedLaws.{in-moved}
-use Rattle.copies.proofs.TextLaws.{one-str, text-read}
+use Rattle.strings.proofs.TextLaws.{one-str, text-read}
 use Rattle.child.proofs.ChildLaws.{one-child}
 use Rattle.release.specs.Free.{Free}
 use Rattle.process.specs.Parts.{UvmFree, SharedFree, ProcFree}

@@ -23,7 +23,7 @@ use Rattle.grow.specs.Init as init
 use Rattle.grow.specs.Grow as grow
 use Rattle.shrink.specs.Shrink as shrink
 use Rattle.copies.specs.Needed as needed
-use Rattle.copies.specs.Str as str
+use Rattle.strings.specs.Str as str
 use Rattle.child.specs.Child as child
 use Rattle.release.specs.Free as free
 use Rattle.process.specs.Parts.{Then, UvmFree, UnmapOne, trampoline, trapframe, SharedFree, ProcFree}

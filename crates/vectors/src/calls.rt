@@ -7,9 +7,9 @@ use super::replies::number_reply;
 use super::rows;
 use address::PhysicalAddress;
 use address::VirtualAddress;
-use copies::StrAnswer;
 use page_table_entry::PageTableEntry;
 use store::Answer;
+use strings::StrAnswer;
 
 // What the helper of a row says.
 fn helper(row: usize) -> Reply {
@@ -94,7 +94,7 @@ fn copied_in(
     if rows::call(row) == 13 {
         return copies::copy_in(words, tmarks, bytes, fmarks, root, va, dst);
     }
-    string_answer(copies::copy_in_str(words, tmarks, bytes, fmarks, root, va, dst))
+    string_answer(strings::copy_in_str(words, tmarks, bytes, fmarks, root, va, dst))
 }
 
 // What the call that releases a root says, and writes; where it is none of the others, it is proc_free_pagetable.

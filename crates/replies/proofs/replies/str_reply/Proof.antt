@@ -1,8 +1,8 @@
 -- `replies::replies::str_reply` meets its contract. Assumes nothing.
 use mathlib.Core.Path.{sym, ap}
 use borrow.Author.Needs.{needs}
-use Rattle.copies.specs.Str.{strSaid}
-use Rattle.copies.specs.declared.StrAnswer.{StrAnswer}
+use Rattle.strings.specs.Str.{strSaid}
+use Rattle.strings.specs.declared.StrAnswer.{StrAnswer}
 use Rattle.replies.specs.Reply.{replyOf}
 use Rattle.replies.proofs.replies.str_reply.Statement.{statement}
 use Rattle.replies.proofs.replies.str_reply.Tie as tie

@@ -8,10 +8,10 @@ use Rattle.store.specs.Store.{Store}
 use Rattle.store.specs.Outcome.{Smallest, NoReason}
 use Rattle.well_formed.specs.Root.{RootReason}
 use Rattle.well_formed.proofs.RootReasons.{root-first}
 use Rattle.copies.specs.Needed.{PageReady, Needs}
-use Rattle.copies.specs.Str.{Passed, StrReason, at-root, page, strLength}
+use Rattle.strings.specs.Str.{Passed, StrReason, at-root, page, strLength}
 use Rattle.copies.proofs.PageReasons.{page-range, page-where}
-use Rattle.copies.proofs.StrLaws.{str-le, str-before}
+use Rattle.strings.proofs.StrLaws.{str-le, str-before}
 
 module _ (s : Store) (root va max : ℕ) where
   -- 1, 2 and 3 come before the numbers of a page

@@ -19,13 +19,13 @@ use Rattle.well_formed.specs.Root.{RootReady}
 use Rattle.well_formed.proofs.RootReasons.{root-clear}
 use Rattle.walk.specs.Mapped.{Mapped}
 use Rattle.unmap.specs.Leave.{PoolFrame}
 use Rattle.copies.specs.Bytes.{placeAt, byteAt}
 use Rattle.copies.specs.Needed.{PageReason, too-high, PageReady, Needs}
-use Rattle.copies.specs.Str.{Passed, StrReason, at-root, page, strLength, Measures}
+use Rattle.strings.specs.Str.{Passed, StrReason, at-root, page, strLength, Measures}
 use Rattle.copies.proofs.BytesCode.{turn}
 use Rattle.copies.proofs.BytesLaws.{page-room, bytes-page}
 use Rattle.copies.proofs.PageReasons.{page-clear}
-use Rattle.copies.proofs.StrLaws.{str-lowest, zero-met, str-le, str-before, str-zero, str-is}
+use Rattle.strings.proofs.StrLaws.{str-lowest, zero-met, str-le, str-before, str-zero, str-is}
 
 -- the string has been followed up to byte i, whose page is needed
 pub record Following (s : Store) (root va max i : ℕ) : Type 0 where

@@ -1,12 +1,12 @@
--- `copies::text::measure` meets its contract. The invariant: the string has been followed up to byte i, whose page is needed. Assumes nothing.
+-- `strings::text::measure` meets its contract. The invariant: the string has been followed up to byte i, whose page is needed. Assumes nothing.
 use Prim.Native.Nat.{_-_}
 use borrow.Author.Needs.{needs}
 use native.Mathlib.Omega.{arith}
 use Rattle.copies.proofs.PageReasons.{placed}
-use Rattle.copies.proofs.TextCode.{Following, start, upto, fits, refuse, room, met, whole, again}
+use Rattle.strings.proofs.TextCode.{Following, start, upto, fits, refuse, room, met, whole, again}
 use Rattle.store.specs.Store.{storeOf}
-use Rattle.copies.proofs.text.measure.Statement.{statement}
-use Rattle.copies.proofs.text.measure.Tie as tie
+use Rattle.strings.proofs.text.measure.Statement.{statement}
+use Rattle.strings.proofs.text.measure.Tie as tie
 
 abbrev Inv-loop : tie.InvT-loop
 Inv-loop words tmarks bytes fmarks root va max i₀ i = Following (storeOf words tmarks bytes fmarks) root va max i

@@ -9,10 +9,10 @@ use Rattle.address.specs.Answer.{Said, refused}
 use Rattle.store.specs.Store.{Store}
 use Rattle.store.specs.Outcome.{Smallest, NoReason}
 use Rattle.well_formed.specs.Root.{RootReason}
-use Rattle.copies.specs.declared.StrAnswer.{StrAnswer}
-use Rattle.copies.specs.declared.StrAnswer.the-variants.{Read, Refused}
+use Rattle.strings.specs.declared.StrAnswer.{StrAnswer}
+use Rattle.strings.specs.declared.StrAnswer.the-variants.{Read, Refused}
 use Rattle.copies.specs.Bytes.{byteAt, bytesAt}
 use Rattle.copies.specs.Needed.{PageReason, Needs}
 
 -- what the answer of `copy_in_str` says on paper: the bytes written, and 1 where a zero was met and 0 where not
 unfoldable pub strSaid : StrAnswer → Said

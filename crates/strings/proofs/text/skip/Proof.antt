@@ -1,4 +1,4 @@
--- `copies::text::skip` meets its contract. The invariant: the first zero is not before i. Assumes nothing.
+-- `strings::text::skip` meets its contract. The invariant: the first zero is not before i. Assumes nothing.
 use Prim.Native.Nat.{_-_, _≤_}
 use native.Mathlib.Omega.{arith}
 use borrow.Author.Needs.{needs}
@@ -6,8 +6,8 @@ use lib.ListN.{length}
 use Rattle.store.specs.Count.{lowest}
 use Rattle.store.proofs.Free.{lowest-le}
 use Rattle.store.proofs.Tests.{not-left}
-use Rattle.copies.proofs.text.skip.Statement.{statement}
-use Rattle.copies.proofs.text.skip.Tie as tie
+use Rattle.strings.proofs.text.skip.Statement.{statement}
+use Rattle.strings.proofs.text.skip.Tie as tie
 
 abbrev Inv-loop : tie.InvT-loop
 Inv-loop part from step i₀ i = i ≤ lowest part

@@ -11,9 +11,9 @@ use lib.ListN.{length, getD}
 use Rattle.store.specs.Store.{Store}
 use Rattle.store.specs.Count.{lowest}
 use Rattle.store.proofs.Free.{lowest-here, lowest-le}
 use Rattle.copies.specs.Bytes.{byteAt, bytesAt}
-use Rattle.copies.specs.Str.{strLength, zeroMet}
+use Rattle.strings.specs.Str.{strLength, zeroMet}
 use Rattle.copies.proofs.BytesLaws.{bytes-length, bytes-get}
 
 -- ---- the first zero of a list
 

@@ -1,4 +1,4 @@
--- `copies::text::zero_from` meets its contract. The invariant: the first zero is not before i. Assumes nothing.
+-- `strings::text::zero_from` meets its contract. The invariant: the first zero is not before i. Assumes nothing.
 use Prim.Native.Nat.{_-_, _≤_}
 use native.Mathlib.Omega.{arith}
 use native.Mathlib.Numerals.{add-one}
@@ -6,8 +6,8 @@ use borrow.Author.Needs.{needs}
 use lib.ListN.{length}
 use Rattle.store.specs.Count.{lowest}
 use Rattle.store.proofs.Free.{lowest-here, lowest-next, lowest-le}
-use Rattle.copies.proofs.text.zero_from.Statement.{statement}
-use Rattle.copies.proofs.text.zero_from.Tie as tie
+use Rattle.strings.proofs.text.zero_from.Statement.{statement}
+use Rattle.strings.proofs.text.zero_from.Tie as tie
 
 abbrev Inv-loop : tie.InvT-loop
 Inv-loop part from i₀ i = i ≤ lowest part

@@ -1,7 +1,5 @@
 // A string from a process to the kernel, after `copy_in_str` of page_table.rs: measured and judged, then copied.
 use super::StrAnswer;
-use super::bytes as user;
-use super::needed;
 use address::VirtualAddress;
 ghost use mathlib.Core.Path.{_≡_};
 ghost use Prim.Native.Nat.{_≤_, _<_};
@@ -10,7 +8,7 @@ ghost use Rattle.store.specs.Count.{lowest};
 ghost use Rattle.store.specs.Says.{Says};
 ghost use Rattle.store.specs.Store.{storeOf};
 ghost use Rattle.well_formed.specs.Root.{RootReady};
-ghost use Rattle.copies.specs.Str.{Str, Measures};
+ghost use Rattle.strings.specs.Str.{Str, Measures};
 
 // What lies on the way: the number of a refusal, or 0, how many bytes come before the zero or the end, and whether a zero was met.
 struct Way {
@@ -94,7 +92,7 @@ fn measure(
     let mut i = 0;
     loop {
         let a = va + (i as u64);
-        let no = needed::judge_page(words, tmarks, bytes, fmarks, root, a);
+        let no = copies::judge_page(words, tmarks, bytes, fmarks, root, a);
         if no != 0 {
             return Way {
                 no: no,
@@ -103,7 +101,7 @@ fn measure(
             };
         }
         let k = walk::lesser(4096 - (a % 4096) as usize, max - i);
-        let from = user::place(words, root, a);
+        let from = copies::place(words, root, a);
         let z = first_zero(&bytes[from..from + k]);
         if z < k {
             return Way {
@@ -145,6 +143,6 @@ pub fn copy_in_str(
         return StrAnswer::Refused(way.no);
     }
     let n = way.n;
-    user::read_bytes(words, tmarks, bytes, fmarks, r, va.0, &mut dst[..n]);
+    copies::read_bytes(words, tmarks, bytes, fmarks, r, va.0, &mut dst[..n]);
     StrAnswer::Read(n as u64, way.met)
 }

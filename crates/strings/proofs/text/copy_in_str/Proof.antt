@@ -1,11 +1,11 @@
--- `copies::text::copy_in_str` meets its contract. Assumes nothing.
+-- `strings::text::copy_in_str` meets its contract. Assumes nothing.
 use borrow.Author.Needs.{needs}
 use lib.Seq.{length-take-le}
 use mathlib.Core.Path.{sym}
-use Rattle.copies.proofs.TextLaws.{refuse-root, refuse-way, within, may-read, done}
+use Rattle.strings.proofs.TextLaws.{refuse-root, refuse-way, within, may-read, done}
 use Rattle.store.specs.Store.{storeOf}
-use Rattle.copies.proofs.text.copy_in_str.Statement.{statement}
-use Rattle.copies.proofs.text.copy_in_str.Tie as tie
+use Rattle.strings.proofs.text.copy_in_str.Statement.{statement}
+use Rattle.strings.proofs.text.copy_in_str.Tie as tie
 
 judge-root-requires : tie.Need-judge-root-requires
 judge-root-requires c κs = search needs

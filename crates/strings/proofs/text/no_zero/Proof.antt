@@ -1,4 +1,4 @@
--- `copies::text::no_zero` meets its contract. The invariant: the least byte so far is 0 exactly if the first zero is before i. Assumes nothing.
+-- `strings::text::no_zero` meets its contract. The invariant: the least byte so far is 0 exactly if the first zero is before i. Assumes nothing.
 use mathlib.Core.Path.{_≡_}
 use Prim.Native.Nat.{_-_, _≤_, _<_}
 use native.Mathlib.Omega.{arith}
@@ -6,8 +6,8 @@ use native.Mathlib.Numerals.{add-one}
 use borrow.Author.Needs.{needs}
 use Rattle.store.specs.Count.{lowest}
 use Rattle.store.proofs.Free.{lowest-here, lowest-next}
-use Rattle.copies.proofs.text.no_zero.Statement.{statement}
-use Rattle.copies.proofs.text.no_zero.Tie as tie
+use Rattle.strings.proofs.text.no_zero.Statement.{statement}
+use Rattle.strings.proofs.text.no_zero.Tie as tie
 
 abbrev Inv-loop : tie.InvT-loop
 Inv-loop part a e least₀ i₀ least i = (i ≤ e) × (least ≡ 0 → lowest part < i) × (0 < least → i ≤ lowest part)

@@ -15,15 +15,15 @@ use Rattle.store.specs.declared.Answer.{Answer}
 use Rattle.store.specs.declared.Answer.the-variants as answer
 use Rattle.store.proofs.Outcomes.{one-outcome}
 use Rattle.well_formed.specs.Root.{RootReason, RootReady}
 use Rattle.copies.specs.Bytes.{byteAt, bytesAt}
 use Rattle.copies.specs.Needed.{CopyReady}
-use Rattle.copies.specs.Str.{StrReason, StrDone, Measures, Str}
-use Rattle.copies.specs.TextRead.{TextRead}
-use Rattle.copies.specs.declared.StrAnswer.{StrAnswer}
-use Rattle.copies.specs.declared.StrAnswer.the-variants.{Read, Refused}
+use Rattle.strings.specs.Str.{StrReason, StrDone, Measures, Str}
+use Rattle.strings.specs.TextRead.{TextRead}
+use Rattle.strings.specs.declared.StrAnswer.{StrAnswer}
+use Rattle.strings.specs.declared.StrAnswer.the-variants.{Read, Refused}
 use Rattle.copies.proofs.BytesLaws.{bytes-length, bytes-get}
-use Rattle.copies.proofs.StrLaws.{zero-met, str-le, str-before, str-zero}
-use Rattle.copies.proofs.TextReasons.{by-root, str-pages}
+use Rattle.strings.proofs.StrLaws.{zero-met, str-le, str-before, str-zero}
+use Rattle.strings.proofs.TextReasons.{by-root, str-pages}
 
 module _ (s : Store) (root va : ℕ) (dst : List ℕ) where
   pub refuse-root : (k : ℕ) → Judges (RootReason s root) (RootReady s root) k → (k ≡ 0 → ⊥) → Str s root va dst (Refused k) dst
