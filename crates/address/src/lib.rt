@@ -1,5 +1,7 @@
 // Virtual and physical addresses, after address.rs.
 // A helper whose result leaves 64 bits, and a level above 2, is refused with 6.
+#![tactic(auto)]
+
 mod numbers;
 
 ghost use Rattle.std.specs.Prelude.{◌≡◌, ◌+◌, ◌%◌, ltb, eqb};

@@ -1,4 +1,6 @@
 // What the program reads: a line as a command, with its numbers.
+#![tactic(auto)]
+
 mod command;
 mod numbers;
 

@@ -1,4 +1,6 @@
 // Bytes between the kernel and a process, after page_table.rs.
+#![tactic(auto)]
+
 mod bytes;
 mod in_out;
 mod needed;

@@ -1,4 +1,6 @@
 // Growing what a root maps from page 0 on, after `uvm_init` and `uvm_alloc` of page_table.rs.
+#![tactic(auto)]
+
 mod growing;
 mod init;
 

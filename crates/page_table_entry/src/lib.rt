@@ -1,5 +1,7 @@
 // Page-table entries, after page_table_entry.rs.
 // An entry is built only from permissions up to 1023, else 8, and from a frame below 2^56, else 9.
+#![tactic(auto)]
+
 ghost use Rattle.std.specs.Prelude.{◌≡◌};
 ghost use Rattle.page_table_entry.specs.Layout.{bit_v, bit_r, bit_w, bit_x, bit_u, has, leaf, flags, frame_of};
 ghost use Rattle.page_table_entry.specs.Change.{WithBit};

@@ -1,4 +1,6 @@
 // Reads commands from standard input, one a line, and prints what each answers. The store has 8 tables and 8 frames.
+#![tactic(auto)]
+
 mod answer;
 
 ghost use Rattle.std.specs.Prelude.{◌≤◌, length, take};

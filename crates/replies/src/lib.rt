@@ -1,4 +1,6 @@
 // Answers as C reads them.
+#![tactic(auto)]
+
 mod replies;
 
 pub use replies::{

@@ -1,4 +1,6 @@
 // Rounding to pages, after mapping/mod.rs, and the pages that a range of bytes covers.
+#![tactic(auto)]
+
 ghost use Rattle.std.specs.Prelude.{◌≡◌};
 ghost use Rattle.address.specs.Page.{down, up};
 ghost use Rattle.address.specs.Answer.{within64, number_said};

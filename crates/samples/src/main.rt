@@ -1,4 +1,6 @@
 // The samples of document 01, a line each: what the code says on them.
+#![tactic(auto)]
+
 mod calls;
 mod say;
 

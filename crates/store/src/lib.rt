@@ -1,5 +1,7 @@
 // The store that every call works on: four lent slices in place of the kernel's boxes and raw pages.
 // Its sizes, marks and levels, the lowest free table or frame, how many are free, and set-up.
+#![tactic(auto)]
+
 mod count;
 mod fill;
 mod marks;

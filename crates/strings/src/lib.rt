@@ -1,4 +1,6 @@
 // Strings from a process to the kernel, after `copy_in_str` of page_table.rs.
+#![tactic(auto)]
+
 mod text;
 
 pub use text::copy_in_str;

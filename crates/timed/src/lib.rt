@@ -1,4 +1,5 @@
 // No part of the library: what bench/ times and no call exports by itself, the judge's two questions about a range of pages.
+#![tactic(auto)]
 
 // The tables that the pages from first up to end of a root lack, or 0 where one of them is mapped or there is no such range.
 #[unsafe(no_mangle)]

@@ -1,4 +1,6 @@
 // Taking pages out of a root, after `uvm_unmap` of page_table.rs, and taking U away, after `uvm_clear`.
+#![tactic(auto)]
+
 mod judge;
 mod leave;
 mod unmapping;

@@ -1,4 +1,6 @@
 // Replays the calls of list.rt, whose answers are the Rust's, and prints how many come out the same here.
+#![tactic(auto)]
+
 mod calls;
 mod digest;
 mod lent;

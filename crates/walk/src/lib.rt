@@ -1,5 +1,7 @@
 // From a root and a page to the page's level-0 word, and what a judge asks of a range of pages: how many have certain bits, and how
 // many tables are missing.
+#![tactic(auto)]
+
 mod missing;
 mod ranges;
 mod runs;

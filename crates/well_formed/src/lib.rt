@@ -1,6 +1,8 @@
 // The check that a store is well formed: yes exactly for W1 to W5. Every call on a store runs it first.
 // Pool frames are counted: given W5 and the words' shapes, every level-0 word of the held window has its pool frame's mark
 // exactly where there are as many such words as frames in use.
+#![tactic(auto)]
+
 mod frames;
 mod leaves;
 mod pointers;

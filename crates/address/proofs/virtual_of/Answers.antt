@@ -1,0 +1,13 @@
+-- `address::virtual_of` meets its contract.
+use mathlib.Core.Path.{sym, ap}
+use borrow.Author.Rules.{rules}
+use Rattle.address.specs.Answer.{number_said, virtual_said}
+use Rattle.address.proofs.virtual_of.Goals as goal
+
+pub returns-in-Is : goal.returns-in-Is
+unfolding number_said virtual_said
+returns-in-Is c = sym (ap number_said c.in-Is.is)
+
+pub returns-in-Refused : goal.returns-in-Refused
+unfolding number_said virtual_said
+returns-in-Refused c = sym (ap number_said c.in-Refused.is)
