@@ -1,0 +1,15 @@
+-- The invariants of the loops.
+use Rattle.well_formed.specs.Scan.{FrameOk}
+use borrow.Author.Count.{below_more, below_none}
+use lib.ListN.{length}
+use Prim.Native.Nat.{ℕ, ◌≤◌, ◌-◌, ◌<◌, zero-le}
+use borrow.Author.Rules.{rules}
+use Rattle.store.proofs.Scans.{passed}
+use Rattle.store.proofs.Tests.{not_left, not_taken}
+use Rattle.well_formed.proofs.frames.frames_ok.Given as goal
+
+abbrev pub invariant-loop-f : goal.invariant-loop-f
+invariant-loop-f l = (l.f ≤ length l.fmarks) × ((k : ℕ) → k < l.f → FrameOk l.words l.tmarks l.fmarks k)
+
+abbrev pub decreases-loop-f : goal.decreases-loop-f
+decreases-loop-f l = length l.fmarks - l.f
