@@ -1,0 +1,21 @@
+-- `walk::ranges::count_block` meets its contract. Assumes nothing.
+use mathlib.Core.Path.{refl}
+use native.Mathlib.Omega.{arith}
+use borrow.Author.Rules.{rules}
+use Rattle.walk.proofs.RangeLaws.{block_low, block_words}
+use Rattle.walk.proofs.ranges.count_block.Goals as goal
+
+pub returns-then-e-lt1073741824 : goal.returns-then-e-lt1073741824
+returns-then-e-lt1073741824 c =
+    let p = c.requires in
+    block_low _ _ _ _ _ _ p.2 p.0 c.if-e-lt1073741824.true
+
+pub overflow_add-from-2 : goal.overflow_add-from-2
+overflow_add-from-2 c = omega (arith, c.requires.1 c.if-e-lt1073741824.false)
+
+pub returns : goal.returns
+returns c =
+    let a = c.args in
+    let p = c.requires in
+    block_words a.words.now a.e a.first a.end _ _ _ a.mask a.v _ p.2 p.0 (p.1 c.if-e-lt1073741824.false) c.if-e-lt1073741824.false refl c.lesser-a.ensures c.lesser-b.ensures
+    c.count_bits.ensures
