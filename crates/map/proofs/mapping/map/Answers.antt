@@ -29,7 +29,7 @@ enter_pages-requires c =
     let a = c.args in
     let f = c.judge_map-no.ensures.ready c.if-no-ne0.false in
     let p = c.page_range-range.ensures in
-    can_enter (store_of a.words.now a.tmarks.now a.bytes.now a.fmarks.now) a.root a.va.0 a.pa.0 a.size a.perm f _ _ p.from p.upto c.if-end-first.false _ _ c.write_perm.ensures (ap entry_said c.e-1.given.1)
+    can_enter (store_of a.words.now a.tmarks.now a.bytes.now a.fmarks.now) a.root a.va.0 a.pa.0 a.size a.perm f _ _ p.from p.upto c.if-end-first.false _ _ c.write_perm.ensures (ap entry_said c.in-Built.is)
 
 pub returns-in-Refused : goal.returns-in-Refused
 unfolding entry_said
@@ -45,4 +45,4 @@ returns-in-Built c =
     let a = c.args in
     let f = c.judge_map-no.ensures.ready c.if-no-ne0.false in
     let p = c.page_range-range.ensures in
-    done (store_of a.words.now a.tmarks.now a.bytes.now a.fmarks.now) a.root a.va.0 a.pa.0 a.size a.perm f _ _ p.from p.upto c.if-end-first.false _ _ c.write_perm.ensures (ap entry_said c.e-1.given.1) _ _ c.missing_tables-taken.ensures c.enter_pages.ensures
+    done (store_of a.words.now a.tmarks.now a.bytes.now a.fmarks.now) a.root a.va.0 a.pa.0 a.size a.perm f _ _ p.from p.upto c.if-end-first.false _ _ c.write_perm.ensures (ap entry_said c.in-Built.is) _ _ c.missing_tables-taken.ensures c.enter_pages.ensures
