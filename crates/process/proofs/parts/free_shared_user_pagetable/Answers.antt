@@ -14,11 +14,11 @@ pub do_rest-requires : goal.do_rest-requires
 do_rest-requires c =
     let a = c.args in
     let l = c.leave_page in
-    shared_rest (store_of a.words.now a.tmarks.now a.bytes.now a.fmarks.now) a.root a.size (c.judge_shared-no.ensures.ready c.if-no-ne0.false) (store_of l.new.words a.tmarks.now a.bytes.now l.new.1.1.1.0) l.ensures
+    shared_rest (store_of a.words.now a.tmarks.now a.bytes.now a.fmarks.now) a.root a.size (c.judge_shared-no.ensures.ready c.if-no-ne0.false) (store_of l.new.words a.tmarks.now a.bytes.now l.new.fmarks) l.ensures
 
 pub returns : goal.returns
 returns c =
     let a = c.args in
     let l = c.leave_page in
     let d = c.do_rest in
-    shared_done (store_of a.words.now a.tmarks.now a.bytes.now a.fmarks.now) a.root a.size (c.judge_shared-no.ensures.ready c.if-no-ne0.false) (store_of l.new.words a.tmarks.now a.bytes.now l.new.1.1.1.0) l.ensures _ (store_of d.new.words d.new.tmarks a.bytes.now d.new.1.1.1.0) d.ensures
+    shared_done (store_of a.words.now a.tmarks.now a.bytes.now a.fmarks.now) a.root a.size (c.judge_shared-no.ensures.ready c.if-no-ne0.false) (store_of l.new.words a.tmarks.now a.bytes.now l.new.fmarks) l.ensures _ (store_of d.new.words d.new.tmarks a.bytes.now d.new.fmarks) d.ensures
