@@ -23,10 +23,10 @@ const PGMASK: u64 = 0x1FF;
 
 const OUTSIDE: u64 = 6;
 
-#[derive(Drop)]
+#[derive(Clone, Copy)]
 pub struct VirtualAddress(pub u64);
 
-#[derive(Drop)]
+#[derive(Clone, Copy)]
 pub struct PhysicalAddress(pub u64);
 
 #[derive(Drop)]

@@ -25,7 +25,7 @@ const FRAME_NUMBER: u64 = 0xFFF_FFFF_FFFF;
 
 const PAST_FRAMES: u64 = 1 << 56;
 
-#[derive(Drop)]
+#[derive(Clone, Copy)]
 pub struct PageTableEntry(pub u64);
 
 #[derive(Drop)]

@@ -21,8 +21,8 @@ found s root p m e em ee = ee ∙ ap (slot_word s.words) em
 
 -- `if !e.is_..()`: what the bit is where it is left, and where it is taken
 module _ (b : Bool) (k e x : ℕ) (eb : b ≡ has k e) (ex : e ≡ x) where
-  pub has_yes : not b ≡ false → bit k x ≡ 1
-  has_yes h = ap (bit k) (sym ex) ∙ eqb-true (bit k e) 1 (sym eb ∙ not-false b h)
+  pub has_yes : b ≡ true → bit k x ≡ 1
+  has_yes h = ap (bit k) (sym ex) ∙ eqb-true (bit k e) 1 (sym eb ∙ h)
 
-  pub has_no : not b ≡ true → bit k x ≡ 1 → ⊥
-  has_no h q = eqb-false (bit k e) 1 (sym eb ∙ not-true b h) (ap (bit k) ex ∙ q)
+  pub has_no : b ≡ false → bit k x ≡ 1 → ⊥
+  has_no h q = eqb-false (bit k e) 1 (sym eb ∙ h) (ap (bit k) ex ∙ q)

@@ -1,0 +1,18 @@
+-- The invariants of the loops.
+use Prim.Native.Nat.{◌+◌, ◌-◌, ◌≤◌, ◌<◌}
+use borrow.Author.Rules.{rules}
+use lib.ListN.{length}
+use mathlib.Core.Logic.{inl}
+use mathlib.Core.Path.{◌≡◌, sym, ◌∙◌}
+use native.Mathlib.Omega.{arith}
+use Rattle.copies.proofs.BytesCode.{part_length, turn, turn_less, Reading, read_start, read_more, read_all}
+use Rattle.copies.proofs.BytesLaws.{page_room}
+use Rattle.copies.proofs.PageReasons.{placed}
+use Rattle.store.specs.Store.{store_of}
+use Rattle.copies.proofs.bytes.read_bytes.Given as goal
+
+abbrev pub invariant-loop-i : goal.invariant-loop-i
+invariant-loop-i l = (l.i ≤ length l.initial.dst) × (length l.dst ≡ length l.initial.dst) × Reading (store_of l.words l.tmarks l.bytes l.fmarks) l.root l.va l.initial.dst l.dst l.i
+
+abbrev pub decreases-loop-i : goal.decreases-loop-i
+decreases-loop-i l = length l.initial.dst - l.i

@@ -1,0 +1,14 @@
+-- The invariants of the loops.
+use mathlib.Core.Path.{◌≡◌}
+use Prim.Native.Nat.{◌-◌, ◌≤◌}
+use lib.ListN.{length}
+use native.Mathlib.Omega.{arith}
+use borrow.Author.Rules.{rules}
+use Rattle.enter.proofs.PutRun.{Putting, run_start, run_next, run_done}
+use Rattle.enter.proofs.enter.put_run.Given as goal
+
+abbrev pub invariant-loop-i : goal.invariant-loop-i
+invariant-loop-i l = (l.i ≤ l.n) × (length l.words ≡ length l.initial.words) × Putting l.initial.words l.m l.n l.e l.words l.i
+
+abbrev pub decreases-loop-i : goal.decreases-loop-i
+decreases-loop-i l = l.n - l.i

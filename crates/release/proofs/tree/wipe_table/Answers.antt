@@ -1,0 +1,12 @@
+-- `release::tree::wipe_table` meets its contract. Assumes nothing.
+use Prim.Native.Nat.{◌+◌, ◌-◌, ◌*◌}
+use borrow.Author.Rules.{rules}
+use mathlib.Core.Path.{refl}
+use native.Mathlib.Omega.{arith}
+use Rattle.release.proofs.FreeTreeLaws.{put_zero}
+use Rattle.release.proofs.tree.wipe_table.Goals as goal
+
+pub returns : goal.returns
+returns c =
+    let a = c.args in
+    (put_zero (512 * a.t) ((512 * a.t + 512) - 512 * a.t) a.words.now c.zero_words.new.s (omega arith) (omega arith) c.zero_words.ensures, refl)

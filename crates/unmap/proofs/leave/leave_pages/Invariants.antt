@@ -1,0 +1,16 @@
+-- The invariants of the loops.
+use mathlib.Core.Path.{◌≡◌}
+use Prim.Native.Nat.{◌-◌}
+use native.Mathlib.Omega.{arith}
+use lib.ListN.{length}
+use borrow.Author.Rules.{rules}
+use Rattle.store.specs.Store.{store_of}
+use Rattle.unmap.proofs.LeavePages.{Leaving, leavable, start, page, is_root, can, after, done}
+use Rattle.unmap.proofs.leave.leave_pages.Given as goal
+
+abbrev pub invariant-loop-i : goal.invariant-loop-i
+invariant-loop-i l =
+    (length l.words ≡ length l.initial.words) × (length l.fmarks ≡ length l.initial.fmarks) × Leaving (store_of l.initial.words l.tmarks l.bytes l.initial.fmarks) l.root l.first l.n l.freeing (store_of l.words l.tmarks l.bytes l.fmarks) l.i
+
+abbrev pub decreases-loop-i : goal.decreases-loop-i
+decreases-loop-i l = l.n - l.i
