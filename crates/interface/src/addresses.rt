@@ -7,120 +7,103 @@ ghost use Rattle.replies.specs.Reply.{reply_of};
 use address::{PhysicalAddress, VirtualAddress};
 use replies::{Reply, number_reply, physical_reply, virtual_reply};
 
-#[unsafe(no_mangle)]
-pub extern "C" fn ronakvesh_virtual_new(addr: u64) -> u64
+pub fn ronakvesh_virtual_new(addr: u64) -> u64
     ensures { result ≡ addr }
 {
     VirtualAddress::new(addr).as_usize()
 }
 
-#[unsafe(no_mangle)]
-pub extern "C" fn ronakvesh_virtual_is_page_aligned(va: u64) -> bool
+pub fn ronakvesh_virtual_is_page_aligned(va: u64) -> bool
     ensures { result ≡ eqb (va % 4096) 0 }
 {
     VirtualAddress(va).is_page_aligned()
 }
 
-#[unsafe(no_mangle)]
-pub extern "C" fn ronakvesh_virtual_pg_round_up(va: u64) -> Reply
+pub fn ronakvesh_virtual_pg_round_up(va: u64) -> Reply
     ensures { result ≡ reply_of (within64 (up va)) }
 {
     virtual_reply(VirtualAddress(va).pg_round_up())
 }
 
-#[unsafe(no_mangle)]
-pub extern "C" fn ronakvesh_virtual_pg_round_down(va: u64) -> u64
+pub fn ronakvesh_virtual_pg_round_down(va: u64) -> u64
     ensures { result ≡ down va }
 {
     VirtualAddress(va).pg_round_down().as_usize()
 }
 
-#[unsafe(no_mangle)]
-pub extern "C" fn ronakvesh_virtual_add_page(va: u64) -> Reply
+pub fn ronakvesh_virtual_add_page(va: u64) -> Reply
     ensures { result ≡ reply_of (within64 (va + 4096)) }
 {
     virtual_reply(VirtualAddress(va).add_page())
 }
 
-#[unsafe(no_mangle)]
-pub extern "C" fn ronakvesh_virtual_compare(va: u64, other: u64) -> bool
+pub fn ronakvesh_virtual_compare(va: u64, other: u64) -> bool
     ensures { result ≡ ltb other va }
 {
     VirtualAddress(va).compare(VirtualAddress(other))
 }
 
-#[unsafe(no_mangle)]
-pub extern "C" fn ronakvesh_virtual_equal(va: u64, other: u64) -> bool
+pub fn ronakvesh_virtual_equal(va: u64, other: u64) -> bool
     ensures { result ≡ eqb va other }
 {
     VirtualAddress(va).equal(VirtualAddress(other))
 }
 
-#[unsafe(no_mangle)]
-pub extern "C" fn ronakvesh_virtual_add_addr(va: u64, addr: u64) -> Reply
+pub fn ronakvesh_virtual_add_addr(va: u64, addr: u64) -> Reply
     ensures { result ≡ reply_of (within64 (va + addr)) }
 {
     virtual_reply(VirtualAddress(va).add_addr(addr))
 }
 
-#[unsafe(no_mangle)]
-pub extern "C" fn ronakvesh_virtual_page_num(va: u64, level: u64) -> Reply
+pub fn ronakvesh_virtual_page_num(va: u64, level: u64) -> Reply
     ensures { result ≡ reply_of (index_at level va) }
 {
     number_reply(VirtualAddress(va).page_num(level))
 }
 
-#[unsafe(no_mangle)]
-pub extern "C" fn ronakvesh_virtual_add(va: u64, other: u64) -> Reply
+pub fn ronakvesh_virtual_add(va: u64, other: u64) -> Reply
     ensures { result ≡ reply_of (within64 (va + other)) }
 {
     virtual_reply(VirtualAddress(va).add(VirtualAddress(other)))
 }
 
-#[unsafe(no_mangle)]
-pub extern "C" fn ronakvesh_virtual_sub(va: u64, other: u64) -> Reply
+pub fn ronakvesh_virtual_sub(va: u64, other: u64) -> Reply
     ensures { result ≡ reply_of (at_least0 va other) }
 {
     virtual_reply(VirtualAddress(va).sub(VirtualAddress(other)))
 }
 
-#[unsafe(no_mangle)]
-pub extern "C" fn ronakvesh_physical_new(addr: u64) -> u64
+pub fn ronakvesh_physical_new(addr: u64) -> u64
     ensures { result ≡ addr }
 {
     PhysicalAddress::new(addr).as_usize()
 }
 
-#[unsafe(no_mangle)]
-pub extern "C" fn ronakvesh_physical_is_page_aligned(pa: u64) -> bool
+pub fn ronakvesh_physical_is_page_aligned(pa: u64) -> bool
     ensures { result ≡ eqb (pa % 4096) 0 }
 {
     PhysicalAddress(pa).is_page_aligned()
 }
 
-#[unsafe(no_mangle)]
-pub extern "C" fn ronakvesh_physical_pg_round_up(pa: u64) -> Reply
+pub fn ronakvesh_physical_pg_round_up(pa: u64) -> Reply
     ensures { result ≡ reply_of (within64 (up pa)) }
 {
     physical_reply(PhysicalAddress(pa).pg_round_up())
 }
 
-#[unsafe(no_mangle)]
-pub extern "C" fn ronakvesh_physical_pg_round_down(pa: u64) -> u64
+pub fn ronakvesh_physical_pg_round_down(pa: u64) -> u64
     ensures { result ≡ down pa }
 {
     PhysicalAddress(pa).pg_round_down().as_usize()
 }
 
-#[unsafe(no_mangle)]
-pub extern "C" fn ronakvesh_physical_add_page(pa: u64) -> Reply
+pub fn ronakvesh_physical_add_page(pa: u64) -> Reply
     ensures { result ≡ reply_of (within64 (pa + 4096)) }
 {
     physical_reply(PhysicalAddress(pa).add_page())
 }
 
-#[unsafe(no_mangle)]
-pub extern "C" fn ronakvesh_physical_add_addr(pa: u64, addr: u64) -> Reply
+pub fn ronakvesh_physical_add_addr(pa: u64, addr: u64) -> Reply
     ensures { result ≡ reply_of (within64 (pa + addr)) }
 {
     physical_reply(PhysicalAddress(pa).add_addr(addr))

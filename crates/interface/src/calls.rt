@@ -5,8 +5,7 @@ ghost use Rattle.interface.specs.Calls.{SetUpReply, CheckReply, TranslateReply, 
 use address::{PhysicalAddress, VirtualAddress};
 use replies::{Reply, answer_reply, str_reply};
 
-#[unsafe(no_mangle)]
-pub extern "C" fn ronakvesh_set_up(
+pub fn ronakvesh_set_up(
     words: &mut [u64],
     tmarks: &mut [u32],
     bytes: &mut [u8],
@@ -19,20 +18,13 @@ pub extern "C" fn ronakvesh_set_up(
     answer_reply(store::set_up(words, tmarks, bytes, fmarks))
 }
 
-#[unsafe(no_mangle)]
-pub extern "C" fn ronakvesh_check(
-    words: &[u64],
-    tmarks: &[u32],
-    bytes: &[u8],
-    fmarks: &[u32],
-) -> Reply
+pub fn ronakvesh_check(words: &[u64], tmarks: &[u32], bytes: &[u8], fmarks: &[u32]) -> Reply
     ensures { CheckReply (store_of words.now tmarks.now bytes.now fmarks.now) result }
 {
     answer_reply(well_formed::check(words, tmarks, bytes, fmarks))
 }
 
-#[unsafe(no_mangle)]
-pub extern "C" fn ronakvesh_pgt_translate(
+pub fn ronakvesh_pgt_translate(
     words: &[u64],
     tmarks: &[u32],
     bytes: &[u8],
@@ -45,8 +37,7 @@ pub extern "C" fn ronakvesh_pgt_translate(
     answer_reply(translate::pgt_translate(words, tmarks, bytes, fmarks, root, VirtualAddress(va)))
 }
 
-#[unsafe(no_mangle)]
-pub extern "C" fn ronakvesh_as_satp(
+pub fn ronakvesh_as_satp(
     words: &[u64],
     tmarks: &[u32],
     bytes: &[u8],
@@ -58,13 +49,7 @@ pub extern "C" fn ronakvesh_as_satp(
     answer_reply(translate::as_satp(words, tmarks, bytes, fmarks, root))
 }
 
-#[unsafe(no_mangle)]
-pub extern "C" fn ronakvesh_uvmcreate(
-    words: &[u64],
-    tmarks: &mut [u32],
-    bytes: &[u8],
-    fmarks: &[u32],
-) -> Reply
+pub fn ronakvesh_uvmcreate(words: &[u64], tmarks: &mut [u32], bytes: &[u8], fmarks: &[u32]) -> Reply
     ensures { CreateReply
         (store_of words.now tmarks.old bytes.now fmarks.now) result
         (store_of words.now tmarks.new bytes.now fmarks.now) }
@@ -72,8 +57,7 @@ pub extern "C" fn ronakvesh_uvmcreate(
     answer_reply(map::uvmcreate(words, tmarks, bytes, fmarks))
 }
 
-#[unsafe(no_mangle)]
-pub extern "C" fn ronakvesh_map(
+pub fn ronakvesh_map(
     words: &mut [u64],
     tmarks: &mut [u32],
     bytes: &[u8],
@@ -101,8 +85,7 @@ pub extern "C" fn ronakvesh_map(
     ))
 }
 
-#[unsafe(no_mangle)]
-pub extern "C" fn ronakvesh_uvm_unmap(
+pub fn ronakvesh_uvm_unmap(
     words: &mut [u64],
     tmarks: &[u32],
     bytes: &[u8],
@@ -128,8 +111,7 @@ pub extern "C" fn ronakvesh_uvm_unmap(
     ))
 }
 
-#[unsafe(no_mangle)]
-pub extern "C" fn ronakvesh_uvm_clear(
+pub fn ronakvesh_uvm_clear(
     words: &mut [u64],
     tmarks: &[u32],
     bytes: &[u8],
@@ -144,8 +126,7 @@ pub extern "C" fn ronakvesh_uvm_clear(
     answer_reply(unmap::uvm_clear(words, tmarks, bytes, fmarks, root, VirtualAddress(va)))
 }
 
-#[unsafe(no_mangle)]
-pub extern "C" fn ronakvesh_uvm_init(
+pub fn ronakvesh_uvm_init(
     words: &mut [u64],
     tmarks: &mut [u32],
     bytes: &mut [u8],
@@ -160,8 +141,7 @@ pub extern "C" fn ronakvesh_uvm_init(
     answer_reply(grow::uvm_init(words, tmarks, bytes, fmarks, root, src))
 }
 
-#[unsafe(no_mangle)]
-pub extern "C" fn ronakvesh_uvm_alloc(
+pub fn ronakvesh_uvm_alloc(
     words: &mut [u64],
     tmarks: &mut [u32],
     bytes: &mut [u8],
@@ -177,8 +157,7 @@ pub extern "C" fn ronakvesh_uvm_alloc(
     answer_reply(grow::uvm_alloc(words, tmarks, bytes, fmarks, root, old, new))
 }
 
-#[unsafe(no_mangle)]
-pub extern "C" fn ronakvesh_uvm_dealloc(
+pub fn ronakvesh_uvm_dealloc(
     words: &mut [u64],
     tmarks: &[u32],
     bytes: &[u8],
@@ -194,8 +173,7 @@ pub extern "C" fn ronakvesh_uvm_dealloc(
     answer_reply(shrink::uvm_dealloc(words, tmarks, bytes, fmarks, root, old, new))
 }
 
-#[unsafe(no_mangle)]
-pub extern "C" fn ronakvesh_copy_in(
+pub fn ronakvesh_copy_in(
     words: &[u64],
     tmarks: &[u32],
     bytes: &[u8],
@@ -209,8 +187,7 @@ pub extern "C" fn ronakvesh_copy_in(
     answer_reply(copies::copy_in(words, tmarks, bytes, fmarks, root, VirtualAddress(va), dst))
 }
 
-#[unsafe(no_mangle)]
-pub extern "C" fn ronakvesh_copy_out(
+pub fn ronakvesh_copy_out(
     words: &[u64],
     tmarks: &[u32],
     bytes: &mut [u8],
@@ -226,8 +203,7 @@ pub extern "C" fn ronakvesh_copy_out(
     answer_reply(copies::copy_out(words, tmarks, bytes, fmarks, root, VirtualAddress(va), src))
 }
 
-#[unsafe(no_mangle)]
-pub extern "C" fn ronakvesh_copy_in_str(
+pub fn ronakvesh_copy_in_str(
     words: &[u64],
     tmarks: &[u32],
     bytes: &[u8],
@@ -241,8 +217,7 @@ pub extern "C" fn ronakvesh_copy_in_str(
     str_reply(strings::copy_in_str(words, tmarks, bytes, fmarks, root, VirtualAddress(va), dst))
 }
 
-#[unsafe(no_mangle)]
-pub extern "C" fn ronakvesh_uvm_copy(
+pub fn ronakvesh_uvm_copy(
     words: &mut [u64],
     tmarks: &mut [u32],
     bytes: &mut [u8],
@@ -258,8 +233,7 @@ pub extern "C" fn ronakvesh_uvm_copy(
     answer_reply(child::uvm_copy(words, tmarks, bytes, fmarks, parent, child, size))
 }
 
-#[unsafe(no_mangle)]
-pub extern "C" fn ronakvesh_free(
+pub fn ronakvesh_free(
     words: &mut [u64],
     tmarks: &mut [u32],
     bytes: &[u8],
@@ -273,8 +247,7 @@ pub extern "C" fn ronakvesh_free(
     answer_reply(release::free(words, tmarks, bytes, fmarks, root))
 }
 
-#[unsafe(no_mangle)]
-pub extern "C" fn ronakvesh_uvm_free(
+pub fn ronakvesh_uvm_free(
     words: &mut [u64],
     tmarks: &mut [u32],
     bytes: &[u8],
@@ -289,8 +262,7 @@ pub extern "C" fn ronakvesh_uvm_free(
     answer_reply(process::uvm_free(words, tmarks, bytes, fmarks, root, size))
 }
 
-#[unsafe(no_mangle)]
-pub extern "C" fn ronakvesh_free_shared_user_pagetable(
+pub fn ronakvesh_free_shared_user_pagetable(
     words: &mut [u64],
     tmarks: &mut [u32],
     bytes: &[u8],
@@ -305,8 +277,7 @@ pub extern "C" fn ronakvesh_free_shared_user_pagetable(
     answer_reply(process::free_shared_user_pagetable(words, tmarks, bytes, fmarks, root, size))
 }
 
-#[unsafe(no_mangle)]
-pub extern "C" fn ronakvesh_proc_free_pagetable(
+pub fn ronakvesh_proc_free_pagetable(
     words: &mut [u64],
     tmarks: &mut [u32],
     bytes: &[u8],

@@ -1,7 +1,7 @@
-// What C and Rust link: every helper and every call, on numbers and lent slices, with its whole promise. Nothing is decided here.
+// Every helper and every call, on numbers and lent slices, with its whole promise, as C and Rust call it. Nothing is decided here.
 #![tactic(auto)]
 
-mod addresses;
-mod calls;
-mod entries;
-mod pages;
+pub mod addresses;
+pub mod calls;
+pub mod entries;
+pub mod pages;

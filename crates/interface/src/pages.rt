@@ -9,22 +9,19 @@ use address::VirtualAddress;
 use replies::{Reply, number_reply};
 use rounding::PageRange;
 
-#[unsafe(no_mangle)]
-pub extern "C" fn ronakvesh_page_round_up(addr: u64) -> Reply
+pub fn ronakvesh_page_round_up(addr: u64) -> Reply
     ensures { result ≡ reply_of (within64 (up addr)) }
 {
     number_reply(rounding::page_round_up(addr))
 }
 
-#[unsafe(no_mangle)]
-pub extern "C" fn ronakvesh_page_round_down(addr: u64) -> u64
+pub fn ronakvesh_page_round_down(addr: u64) -> u64
     ensures { result ≡ down addr }
 {
     rounding::page_round_down(addr)
 }
 
-#[unsafe(no_mangle)]
-pub extern "C" fn ronakvesh_page_range(va: u64, size: u64) -> PageRange
+pub fn ronakvesh_page_range(va: u64, size: u64) -> PageRange
     ensures { Covers va size result }
 {
     rounding::page_range(VirtualAddress(va), size)

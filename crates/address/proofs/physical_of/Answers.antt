@@ -1,6 +1,5 @@
 -- `address::physical_of` meets its contract.
 use mathlib.Core.Path.{sym, ap}
-use borrow.Author.Rules.{rules}
 use Rattle.address.specs.Answer.{number_said, physical_said}
 use Rattle.address.proofs.physical_of.Goals as goal
 

@@ -1,6 +1,5 @@
 -- `address::virtual_of` meets its contract.
 use mathlib.Core.Path.{sym, ap}
-use borrow.Author.Rules.{rules}
 use Rattle.address.specs.Answer.{number_said, virtual_said}
 use Rattle.address.proofs.virtual_of.Goals as goal
 

@@ -1,6 +1,5 @@
 -- `address::VirtualAddress::page_num` meets its contract: the shift and the mask are the index. Assumes nothing.
 use mathlib.Core.Path.{ap, ◌∙◌}
-use borrow.Author.Rules.{rules}
 use Rattle.address.specs.Answer.{number_said, answered}
 use Rattle.address.proofs.Answers.{indexed, too_high}
 use Rattle.address.proofs.Pages.{index_mask}

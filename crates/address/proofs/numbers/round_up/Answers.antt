@@ -1,6 +1,5 @@
 -- `address::numbers::round_up` meets its contract: the test says whether the next page's start leaves 64 bits.
 use mathlib.Core.Path.{ap, ◌∙◌}
-use borrow.Author.Rules.{rules}
 use native.Mathlib.Omega.{arith}
 use Rattle.address.specs.Answer.{number_said, answered}
 use Rattle.address.proofs.Answers.{held, outside}

@@ -1,5 +1,4 @@
 -- `address::numbers::sum` meets its contract.
-use borrow.Author.Rules.{rules}
 use native.Mathlib.Omega.{arith}
 use Rattle.address.specs.Answer.{number_said}
 use Rattle.address.proofs.Answers.{held, outside}

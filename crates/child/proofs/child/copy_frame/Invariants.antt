@@ -1,0 +1,14 @@
+-- The invariants of the loops.
+use Prim.Native.Nat.{◌-◌, ◌*◌, ◌≤◌}
+use borrow.Author.Rules.{rules}
+use lib.ListN.{length, drop}
+use lib.Seq.{paste, paste-zero}
+use mathlib.Core.Path.{◌≡◌, ◌∙◌}
+use Rattle.child.proofs.FrameCopy.{copy_more, copied}
+use Rattle.child.proofs.child.copy_frame.Given as goal
+
+abbrev pub invariant-loop-i : goal.invariant-loop-i
+invariant-loop-i l = (length l.bytes ≡ length l.initial.bytes) × (l.i ≤ 4096) × (l.bytes ≡ paste l.initial.bytes (4096 * l.f) (drop (4096 * l.g) l.initial.bytes) l.i)
+
+abbrev pub decreases-loop-i : goal.decreases-loop-i
+decreases-loop-i l = 4096 - l.i

@@ -1,0 +1,28 @@
+-- `process::parts::do_rest` meets its contract. Assumes nothing.
+use borrow.Author.Rules.{rules}
+use Rattle.process.proofs.RestLaws.{small, may_leave, may_free_rest, rest_done}
+use Rattle.store.specs.Store.{store_of}
+use Rattle.process.proofs.parts.do_rest.Goals as goal
+
+pub pages_to-requires : goal.pages_to-requires
+pages_to-requires c =
+    let a = c.args in
+    small (store_of a.words.now a.tmarks.now a.bytes.now a.fmarks.now) a.root a.size c.requires
+
+pub leave_pages-requires : goal.leave_pages-requires
+leave_pages-requires c =
+    let a = c.args in
+    may_leave (store_of a.words.now a.tmarks.now a.bytes.now a.fmarks.now) a.root a.size c.requires _ c.pages_to.ensures
+
+pub free_table-requires : goal.free_table-requires
+free_table-requires c =
+    let a = c.args in
+    let l = c.leave_pages in
+    may_free_rest (store_of a.words.now a.tmarks.now a.bytes.now a.fmarks.now) a.root a.size c.requires _ c.pages_to.ensures (store_of l.new.words a.tmarks.now a.bytes.now l.new.fmarks) l.ensures
+
+pub returns : goal.returns
+returns c =
+    let a = c.args in
+    let l = c.leave_pages in
+    let r = c.free_table in
+    rest_done (store_of a.words.now a.tmarks.now a.bytes.now a.fmarks.now) a.root a.size c.requires _ c.pages_to.ensures (store_of l.new.words a.tmarks.now a.bytes.now l.new.fmarks) l.ensures r.new.words r.new.tmarks r.result r.ensures
