@@ -1,8 +1,0 @@
--- `interface::addresses::ronakvesh_virtual_pg_round_up` meets its contract: what its two callees ensure, joined. Assumes nothing.
-use mathlib.Core.Path.{ap, ◌∙◌}
-use Rattle.replies.specs.Reply.{reply_of}
-use Rattle.interface.proofs.addresses.ronakvesh_virtual_pg_round_up.Statement.{statement}
-use Rattle.interface.proofs.addresses.ronakvesh_virtual_pg_round_up.Tie as tie
-
-pub ronakvesh-virtual-pg-round-up-spec : {M : Type 1} → statement M
-ronakvesh-virtual-pg-round-up-spec = tie.close (tie.spec (λ c κs. tt) (λ c κs. tt) (λ c. c.virtual-reply.ensures ∙ ap reply_of c.before.pg-round-up.ensures))
