@@ -2,9 +2,14 @@
 use super::replies::Reply;
 use std::io;
 
+fn put(rt: &impl Print, text: &str) -> io::Result<()> {
+    rt.print(text)
+}
+
 // A number, then what it counts.
 pub fn count(rt: &impl Print, n: u64, what: &str) -> io::Result<()> {
-    print!(rt; "{n}{what}")
+    rt.print(n)?;
+    put(rt, what)
 }
 
 // A row that is not as it must be, with what comes out here.
