@@ -1,6 +1,5 @@
 -- `store::set_up` meets its contract. Assumes nothing.
 use mathlib.Core.Path.{refl}
-use borrow.Author.Rules.{rules}
 use Rattle.store.proofs.Tests.{yes, no}
 use Rattle.store.proofs.SetUp.{no_1, clear}
 use Rattle.store.proofs.set_up.Goals as goal

@@ -1,8 +1,7 @@
 -- `well_formed::check` meets its contract. Assumes nothing.
 use mathlib.Core.Path.{refl}
 use mathlib.Core.Logic.{inl, inr}
-use borrow.Author.Rules.{rules}
-use Rattle.store.proofs.Tests.{not_left, not_taken, no, yes}
+use Rattle.store.proofs.Tests.{no, yes}
 use Rattle.well_formed.proofs.Verdict.{no_1, clear}
 use Rattle.well_formed.proofs.check.Goals as goal
 

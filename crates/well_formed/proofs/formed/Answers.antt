@@ -4,7 +4,6 @@ use Prim.Native.Nat.{ℕ, ◌-◌}
 use native.Mathlib.Omega.{arith}
 use borrow.Author.Tests.{not-false}
 use lib.ListN.{length}
-use borrow.Author.Rules.{rules}
 use Rattle.store.proofs.Free.{free_le}
 use Rattle.store.proofs.Tests.{not_left, not_taken, no, yes}
 use Rattle.well_formed.proofs.Verdict.{formed, none_used, words_of, count_of, counted}

@@ -1,6 +1,5 @@
 -- `well_formed::judge_root` meets its contract. Assumes nothing.
 use mathlib.Core.Path.{sym, ◌∙◌}
-use borrow.Author.Rules.{rules}
 use Rattle.well_formed.proofs.RootReasons.{not_judged, no_3, named}
 use Rattle.well_formed.proofs.judge_root.Goals as goal
 

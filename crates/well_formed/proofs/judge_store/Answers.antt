@@ -1,8 +1,7 @@
 -- `well_formed::judge_store` meets its contract. Assumes nothing.
 use mathlib.Core.Path.{refl}
 use mathlib.Core.Logic.{inl, inr}
-use borrow.Author.Rules.{rules}
-use Rattle.store.proofs.Tests.{not_left, not_taken, no, yes}
+use Rattle.store.proofs.Tests.{no, yes}
 use Rattle.well_formed.proofs.judge_store.Goals as goal
 
 pub returns-then-not-sized : goal.returns-then-not-sized

@@ -1,6 +1,5 @@
 -- `store::count::count_free` meets its contract. Assumes nothing.
 use mathlib.Core.Path.{◌∙◌}
-use borrow.Author.Rules.{rules}
 use Rattle.store.proofs.Parts.{free_part}
 use Rattle.store.proofs.count.count_free.Goals as goal
 

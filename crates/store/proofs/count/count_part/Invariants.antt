@@ -1,13 +1,8 @@
 -- The invariants of the loops.
-use mathlib.Core.Path.{◌≡◌, sym, ap, ◌∙◌}
-use Prim.Native.Nat.{ℕ, ◌-◌, ◌≤◌}
-use native.Mathlib.Nat.{le_antisymm}
-use native.Mathlib.Omega.{arith}
-use borrow.Author.Rules.{rules}
+use mathlib.Core.Path.{◌≡◌}
+use Prim.Native.Nat.{◌-◌, ◌≤◌}
 use Rattle.store.specs.Store.{mark}
 use Rattle.store.specs.Count.{zeros}
-use Rattle.store.proofs.Free.{zeros_le}
-use Rattle.store.proofs.Parts.{part_none, part_more, part_pass}
 use Rattle.store.proofs.count.count_part.Given as goal
 
 abbrev pub invariant-loop-i : goal.invariant-loop-i

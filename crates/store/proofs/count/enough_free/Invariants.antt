@@ -1,13 +1,9 @@
 -- The invariants of the loops.
 use mathlib.Core.Path.{◌≡◌}
-use Prim.Native.Nat.{◌+◌, ◌-◌, ◌≤◌}
-use native.Mathlib.Omega.{arith}
-use borrow.Author.Rules.{rules}
+use Prim.Native.Nat.{◌-◌, ◌≤◌}
 use lib.ListN.{length}
 use Rattle.store.specs.Store.{mark}
 use Rattle.store.specs.Count.{zeros}
-use Rattle.store.proofs.Free.{zeros_le}
-use Rattle.store.proofs.Parts.{part_join, free_parts}
 use Rattle.store.proofs.count.enough_free.Given as goal
 
 abbrev pub invariant-loop-n : goal.invariant-loop-n

@@ -1,11 +1,11 @@
 -- `store::fill::copy_bytes` meets its contract. The invariant: the first i bytes are copied. Assumes nothing.
-use mathlib.Core.Path.{◌≡◌, ap, ◌∙◌}
+use mathlib.Core.Path.{ap, ◌∙◌}
 use mathlib.Core.List.{List}
-use Prim.Native.Nat.{ℕ, ◌-◌, ◌≤◌}
+use Prim.Native.Nat.{ℕ}
 use native.Mathlib.Omega.{arith}
 use borrow.Author.Rules.{rules}
-use lib.ListN.{length, get_or, set, length-set}
-use lib.Seq.{paste, paste-zero}
+use lib.ListN.{get_or, set, length-set}
+use lib.Seq.{paste-zero}
 use Rattle.store.proofs.Scans.{copy_more, copied}
 use Rattle.store.proofs.fill.copy_bytes.Goals as goal
 

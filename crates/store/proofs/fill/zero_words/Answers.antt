@@ -1,11 +1,10 @@
 -- `store::fill::zero_words` meets its contract. Assumes nothing.
 use Rattle.store.proofs.Scans.{filled}
 use borrow.Author.Fill.{fill_more}
-use lib.ListN.{length, drop, replicate, set, length-set}
-use mathlib.Core.List.{◌++◌, List}
-use mathlib.Core.Path.{◌≡◌, ap, ◌∙◌}
-use Prim.Native.Nat.{◌≤◌, ◌-◌, ℕ}
-use borrow.Author.Rules.{rules}
+use lib.ListN.{set, length-set}
+use mathlib.Core.List.{List}
+use mathlib.Core.Path.{ap, ◌∙◌}
+use Prim.Native.Nat.{ℕ}
 use native.Mathlib.Omega.{arith}
 use Rattle.store.proofs.fill.zero_words.Goals as goal
 

@@ -1,12 +1,8 @@
 -- The invariants of the loops.
-use Rattle.store.proofs.Scans.{filled}
-use borrow.Author.Fill.{fill_more}
-use lib.ListN.{length, drop, replicate, set, length-set}
-use mathlib.Core.List.{◌++◌, List}
-use mathlib.Core.Path.{◌≡◌, ap, ◌∙◌}
-use Prim.Native.Nat.{◌≤◌, ◌-◌, ℕ}
-use borrow.Author.Rules.{rules}
-use native.Mathlib.Omega.{arith}
+use lib.ListN.{length, drop, replicate}
+use mathlib.Core.List.{◌++◌}
+use mathlib.Core.Path.{◌≡◌}
+use Prim.Native.Nat.{◌≤◌, ◌-◌}
 use Rattle.store.proofs.fill.zero_words.Given as goal
 
 abbrev pub invariant-loop-i : goal.invariant-loop-i

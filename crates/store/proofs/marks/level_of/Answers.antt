@@ -1,5 +1,4 @@
 -- `store::marks::level_of` meets its contract: each way out is one of the found levels. Assumes nothing.
-use borrow.Author.Rules.{rules}
 use Rattle.store.proofs.Levels.{found_root, found_free, found_one, found_adrift, found_zero, found_deep}
 use Rattle.store.proofs.marks.level_of.Goals as goal
 

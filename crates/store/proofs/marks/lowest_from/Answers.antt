@@ -1,10 +1,6 @@
 -- `store::marks::lowest_from` meets its contract. The invariant: the lowest free mark is not below i. Assumes nothing.
-use Prim.Native.Nat.{◌-◌, ◌≤◌}
 use native.Mathlib.Omega.{arith}
 use native.Mathlib.Numerals.{add-one}
-use borrow.Author.Rules.{rules}
-use lib.ListN.{length}
-use Rattle.store.specs.Count.{lowest}
 use Rattle.store.proofs.Free.{lowest_here, lowest_next, lowest_le}
 use Rattle.store.proofs.marks.lowest_from.Goals as goal
 

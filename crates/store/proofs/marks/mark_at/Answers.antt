@@ -1,6 +1,5 @@
 -- `store::marks::mark_at` meets its contract. Assumes nothing.
 use mathlib.Core.Path.{sym}
-use borrow.Author.Rules.{rules}
 use native.Mathlib.Omega.{arith}
 use lib.ListN.{get_or-eq_default}
 use lib.Dec.{lit<}

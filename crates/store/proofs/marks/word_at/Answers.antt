@@ -1,7 +1,6 @@
 -- `store::marks::word_at` meets its contract. Assumes nothing.
 use mathlib.Core.Path.{sym}
 use lib.ListN.{get_or-eq_default}
-use borrow.Author.Rules.{rules}
 use Rattle.store.proofs.marks.word_at.Goals as goal
 
 -- src/lib.rt:26:1

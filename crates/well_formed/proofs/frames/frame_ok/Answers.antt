@@ -2,7 +2,6 @@
 use mathlib.Core.Path.{sym, ◌∙◌}
 use mathlib.Core.Logic.{inl}
 use native.Mathlib.Omega.{arith}
-use borrow.Author.Rules.{rules}
 use Rattle.well_formed.proofs.MarkLaws.{frame_one, frame_level, frame_other, frame_named}
 use Rattle.well_formed.proofs.frames.frame_ok.Goals as goal
 

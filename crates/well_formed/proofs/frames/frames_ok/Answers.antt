@@ -1,11 +1,9 @@
 -- `well_formed::frames::frames_ok` meets its contract. Assumes nothing.
-use Rattle.well_formed.specs.Scan.{FrameOk}
 use borrow.Author.Count.{below_more, below_none}
-use lib.ListN.{length}
-use Prim.Native.Nat.{ℕ, ◌≤◌, ◌-◌, ◌<◌, zero-le}
+use Prim.Native.Nat.{zero-le}
 use borrow.Author.Rules.{rules}
 use Rattle.store.proofs.Scans.{passed}
-use Rattle.store.proofs.Tests.{not_left, not_taken, no, yes}
+use Rattle.store.proofs.Tests.{no, yes}
 use Rattle.well_formed.proofs.frames.frames_ok.Goals as goal
 
 pub loop-f-init : goal.loop-f-init

@@ -1,13 +1,7 @@
 -- The invariants of the loops.
 use mathlib.Core.Path.{◌≡◌}
 use Prim.Native.Nat.{◌-◌, ◌%◌, ◌≤◌}
-use native.Mathlib.Omega.{arith}
-use borrow.Author.Rules.{rules}
-use borrow.Author.Tests.{not-false}
-use Rattle.store.proofs.Tests.{not_left, not_taken}
 use Rattle.well_formed.specs.Scan.{Shapes, Over, windowed}
-use Rattle.well_formed.proofs.Parts.{each_none, each_join, each_part, each_done, over_none, over_join, over_done}
-use Rattle.well_formed.proofs.WordLaws.{finds_not, finds_yes}
 use Rattle.well_formed.proofs.leaves.leaves.Given as goal
 
 abbrev pub invariant-loop-i : goal.invariant-loop-i

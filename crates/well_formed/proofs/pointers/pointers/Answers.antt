@@ -1,10 +1,7 @@
 -- `well_formed::pointers::pointers` meets its contract. The invariant: 32 words at a time are left. Assumes nothing.
-use mathlib.Core.Path.{◌≡◌}
-use Prim.Native.Nat.{◌-◌, ◌%◌, ◌≤◌}
 use native.Mathlib.Omega.{arith}
 use borrow.Author.Rules.{rules}
-use Rattle.store.proofs.Tests.{not_left, not_taken, no, yes}
-use Rattle.well_formed.specs.Scan.{Pointers}
+use Rattle.store.proofs.Tests.{no, yes}
 use Rattle.well_formed.proofs.Parts.{each_none, each_join, each_part, each_done}
 use Rattle.well_formed.proofs.pointers.pointers.Goals as goal
 

@@ -1,11 +1,7 @@
 -- The invariants of the loops.
 use mathlib.Core.Path.{◌≡◌}
 use Prim.Native.Nat.{◌-◌, ◌%◌, ◌≤◌}
-use native.Mathlib.Omega.{arith}
-use borrow.Author.Rules.{rules}
-use Rattle.store.proofs.Tests.{not_left, not_taken}
 use Rattle.well_formed.specs.Scan.{Pointers}
-use Rattle.well_formed.proofs.Parts.{each_none, each_join, each_part, each_done}
 use Rattle.well_formed.proofs.pointers.pointers.Given as goal
 
 abbrev pub invariant-loop-i : goal.invariant-loop-i

@@ -1,9 +1,7 @@
 -- `well_formed::pointers::pointers_each` meets its contract. Assumes nothing.
-use Rattle.well_formed.specs.Scan.{Pointers}
 use native.Mathlib.Nat.{le_refl}
-use Prim.Native.Nat.{◌≤◌, ◌-◌}
 use borrow.Author.Rules.{rules}
-use Rattle.store.proofs.Tests.{not_left, not_taken, no, yes}
+use Rattle.store.proofs.Tests.{no, yes}
 use Rattle.well_formed.proofs.Parts.{each_none, each_more, each_part}
 use Rattle.well_formed.proofs.pointers.pointers_each.Goals as goal
 

@@ -1,6 +1,5 @@
 -- `well_formed::pointers::pointers_few` meets its contract. Assumes nothing.
 use mathlib.Core.Logic.{inl}
-use borrow.Author.Rules.{rules}
 use Rattle.store.proofs.Tests.{yes}
 use Rattle.well_formed.proofs.pointers.pointers_few.Goals as goal
 

@@ -4,7 +4,6 @@ use Prim.Native.Nat.{ℕ, ◌-◌, ◌/◌}
 use mathlib.Core.Path.{ap, sym, ◌∙◌}
 use mathlib.Core.Logic.{⊎_elim, inl, inr}
 use native.Mathlib.Omega.{arith}
-use borrow.Author.Rules.{rules}
 use Rattle.well_formed.proofs.pointers.points_ok.Goals as goal
 
 pub returns-then-x-eq0 : goal.returns-then-x-eq0

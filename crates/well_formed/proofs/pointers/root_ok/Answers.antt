@@ -1,6 +1,5 @@
 -- `well_formed::pointers::root_ok` meets its contract. Assumes nothing.
-use borrow.Author.Rules.{rules}
-use Rattle.store.proofs.Tests.{not_left, not_taken, no, yes}
+use Rattle.store.proofs.Tests.{no, yes}
 use Rattle.well_formed.proofs.pointers.root_ok.Goals as goal
 
 pub returns-then-not-pointers : goal.returns-then-not-pointers

@@ -1,6 +1,4 @@
 -- `well_formed::scan::any` meets its contract. Assumes nothing.
-use Rattle.well_formed.specs.Scan.{OrOf}
-use Prim.Native.Nat.{◌≤◌, ◌-◌}
 use borrow.Author.Rules.{rules}
 use Rattle.well_formed.proofs.Ors.{or_none, or_more, or_done}
 use Rattle.well_formed.proofs.scan.any.Goals as goal

@@ -1,8 +1,6 @@
 -- The invariants of the loops.
 use Rattle.well_formed.specs.Scan.{OrOf}
 use Prim.Native.Nat.{◌≤◌, ◌-◌}
-use borrow.Author.Rules.{rules}
-use Rattle.well_formed.proofs.Ors.{or_none, or_more, or_done}
 use Rattle.well_formed.proofs.scan.any.Given as goal
 
 abbrev pub invariant-loop-i : goal.invariant-loop-i

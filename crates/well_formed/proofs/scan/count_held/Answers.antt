@@ -1,9 +1,7 @@
 -- `well_formed::scan::count_held` meets its contract. The invariant: n of the words from a up to i are counted. Assumes nothing.
-use Prim.Native.Nat.{◌≤◌, ◌-◌}
 use native.Mathlib.Omega.{arith}
 use borrow.Author.Rules.{rules}
 use Rattle.store.proofs.Sums.{same_yes, same_no}
-use Rattle.well_formed.specs.Scan.{Over, windowed}
 use Rattle.well_formed.proofs.Parts.{over_none, over_one, over_skip, over_done}
 use Rattle.well_formed.proofs.scan.count_held.Goals as goal
 

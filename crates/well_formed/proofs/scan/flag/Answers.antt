@@ -1,6 +1,5 @@
 -- `well_formed::scan::flag` meets its contract. Assumes nothing.
 use mathlib.Core.Path.{refl}
-use borrow.Author.Rules.{rules}
 use Rattle.well_formed.proofs.Ors.{flag_right}
 use Rattle.well_formed.proofs.scan.flag.Goals as goal
 

@@ -1,6 +1,4 @@
 -- `well_formed::scan::flags` meets its contract. Assumes nothing.
-use Rattle.well_formed.specs.Scan.{FlagsOf}
-use Prim.Native.Nat.{◌≤◌, ◌-◌}
 use borrow.Author.Rules.{rules}
 use Rattle.well_formed.proofs.Ors.{flags_none, flags_more, flags_done}
 use Rattle.well_formed.proofs.scan.flags.Goals as goal

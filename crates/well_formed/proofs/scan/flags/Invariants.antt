@@ -1,8 +1,6 @@
 -- The invariants of the loops.
 use Rattle.well_formed.specs.Scan.{FlagsOf}
 use Prim.Native.Nat.{◌≤◌, ◌-◌}
-use borrow.Author.Rules.{rules}
-use Rattle.well_formed.proofs.Ors.{flags_none, flags_more, flags_done}
 use Rattle.well_formed.proofs.scan.flags.Given as goal
 
 abbrev pub invariant-loop-i : goal.invariant-loop-i

@@ -1,6 +1,5 @@
 -- `well_formed::scan::zeros` meets its contract. Assumes nothing.
 use native.Mathlib.Omega.{arith}
-use borrow.Author.Rules.{rules}
 use Rattle.well_formed.proofs.Ors.{or_zero}
 use Rattle.well_formed.proofs.scan.zeros.Goals as goal
 

@@ -1,7 +1,6 @@
 -- `well_formed::tables::table_ok` meets its contract. Assumes nothing.
 use mathlib.Core.Logic.{inl, inr}
-use borrow.Author.Rules.{rules}
-use Rattle.store.proofs.Tests.{not_left, not_taken, no, yes}
+use Rattle.store.proofs.Tests.{no, yes}
 use Rattle.well_formed.proofs.MarkLaws.{table_free, table_astray, table_pointed, table_low}
 use Rattle.well_formed.proofs.tables.table_ok.Goals as goal
 

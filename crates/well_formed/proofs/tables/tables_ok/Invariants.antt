@@ -1,11 +1,7 @@
 -- The invariants of the loops.
 use Rattle.well_formed.specs.Scan.{TableOk}
-use borrow.Author.Count.{below_more, below_none}
 use lib.ListN.{length}
-use Prim.Native.Nat.{ℕ, ◌≤◌, ◌-◌, ◌<◌, zero-le}
-use borrow.Author.Rules.{rules}
-use Rattle.store.proofs.Scans.{passed}
-use Rattle.store.proofs.Tests.{not_left, not_taken}
+use Prim.Native.Nat.{ℕ, ◌≤◌, ◌-◌, ◌<◌}
 use Rattle.well_formed.proofs.tables.tables_ok.Given as goal
 
 abbrev pub invariant-loop-t : goal.invariant-loop-t

@@ -1,5 +1,4 @@
 -- `well_formed::words::table_words_ok` meets its contract: each way out is a table of one level. Assumes nothing.
-use borrow.Author.Rules.{rules}
 use Rattle.well_formed.proofs.WordLaws.{leaf_table, inner_table, root_table, free_table, lost_table}
 use Rattle.well_formed.proofs.words.table_words_ok.Goals as goal
 
