@@ -1,8 +1,7 @@
-//! Lays the files of the Rust and the shims beside each other in one tree of symbolic links,
-//! so that the Rust is compiled as it stands, and tells the linker where the archive is.
+//! Copies the files of the Rust and the shims beside each other into one tree, so that the Rust
+//! is compiled as it stands, and tells the linker where the archive is.
 //! Without the feature `rust` only the latter.
 
-use std::os::unix::fs::symlink;
 use std::path::{Path, PathBuf};
 use std::{env, fs};
 
@@ -27,9 +26,9 @@ fn lay_out(rust: &Path) {
         fs::remove_dir_all(&tree).expect("the old tree can be removed");
     }
     for file in fs::read_to_string(RUST_FILES).expect(RUST_FILES).lines() {
-        link(&rust.join(file), &out.join(file));
+        copy(&rust.join(file), &out.join(file));
     }
-    link_folder(&fs::canonicalize("shims").expect("shims"), &tree.join("src"));
+    copy_folder(&fs::canonicalize("shims").expect("shims"), &tree.join("src"));
     println!("cargo:rerun-if-changed={RUST_FILES}");
 }
 
@@ -42,23 +41,23 @@ fn given_folder(variable: &str) -> PathBuf {
     }
 }
 
-/// Links one file into the tree, and has a change of it noticed.
-fn link(file: &Path, place: &Path) {
+/// Copies one file into the tree, and has a change of it noticed.
+fn copy(file: &Path, place: &Path) {
     println!("cargo:rerun-if-changed={}", file.display());
     fs::create_dir_all(place.parent().expect("a place in the tree")).expect("a folder of the tree");
-    symlink(file, place).unwrap_or_else(|error| panic!("{}: {error}", place.display()));
+    fs::copy(file, place).unwrap_or_else(|error| panic!("{}: {error}", place.display()));
 }
 
-/// Links every file of a folder, and of the folders in it, to the same place in the tree.
-fn link_folder(folder: &Path, place: &Path) {
+/// Copies every file of a folder, and of the folders in it, to the same place in the tree.
+fn copy_folder(folder: &Path, place: &Path) {
     println!("cargo:rerun-if-changed={}", folder.display());
     for found in fs::read_dir(folder).expect("a folder of shims") {
         let path = found.expect("a shim").path();
         let there = place.join(path.file_name().expect("a name"));
         if path.is_dir() {
-            link_folder(&path, &there);
+            copy_folder(&path, &there);
         } else {
-            link(&path, &there);
+            copy(&path, &there);
         }
     }
 }

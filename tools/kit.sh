@@ -7,35 +7,76 @@ target=$root/target
 # Says a line on standard error, under the name of the tool that runs.
 complain() { printf 'tools/%s: %s\n' "${0##*/}" "$*" >&2; }
 
-# Is NAME a crate of crates.txt whose root file is src/FILE?
-is_crate() { # NAME FILE
+# Is NAME a crate of crates.txt, or a static library there, whose root file is src/FILE?
+is_crate() { # NAME FILE [staticlib]
     case $1 in '' | *[!A-Za-z0-9_]*) return 1 ;; esac
-    sed 's/#.*//' "$root/crates.txt" | grep -q "^[[:blank:]]*$1[[:blank:]]*:" && [ -f "$root/crates/$1/src/$2" ]
+    sed 's/#.*//' "$root/crates.txt" | grep -q "^[[:blank:]]*$1${3:+ $3}[[:blank:]]*:" && [ -f "$root/crates/$1/src/$2" ]
 }
 
 # Prints the crates that NAME depends on.
 deps_of() { # NAME
-    sed -n "s/#.*//; s/^[[:blank:]]*$1[[:blank:]]*://p" "$root/crates.txt"
+    sed -n "s/#.*//; s/^[[:blank:]]*$1\( staticlib\)\{0,1\}[[:blank:]]*://p" "$root/crates.txt"
 }
 
-# Sets home and rt, the kit's folder and its command, and own, what the kit has for this machine.
+# Sets rt and home, the kit's command and its folder.
 find_kit() {
     rt=${RATTLE_HOME:+$RATTLE_HOME/bin/rt}
     [ -n "$rt" ] || rt=$(command -v rt) || rt=rt
     home=${RATTLE_HOME:-$(dirname -- "$(dirname -- "$(readlink -f -- "$rt")")")}
-    own=$home/on/$(uname -m)
-    [ -x "$rt" ] && [ -x "$own/bin/rattle" ] && return
-    complain "no Rattle kit for this machine: put its command rt on the PATH, or set RATTLE_HOME to its folder"
+    if [ "$(uname -m)" != x86_64 ]; then
+        complain "the Rattle kit is for x86-64, and this machine is another one: $(uname -m)"
+        exit 2
+    fi
+    [ -x "$rt" ] && [ -x "$home/bin/rattle" ] && return
+    complain "no Rattle kit: put its command rt on the PATH, or set RATTLE_HOME to its folder"
     exit 2
 }
 
-# Proves crate NAME and what it depends on. What rt says is shown on standard error where it fails.
-prove() { # NAME
+# Prints a sum of the kit and of all that a proof reads here.
+sum_of_sources() {
+    (cd "$root" && { cat "$home/KIT-ID" crates.txt && find crates -path 'crates/*/out' -prune -o -type f -print |
+        LC_ALL=C sort | tr '\n' '\0' | xargs -0 sha256sum; } | sha256sum)
+}
+
+# Prints a sum of that, of the libraries that stand in crates/*/out, whose `format` has the sum of their files, and of the programs.
+sum_of_all() {
+    sum_of_sources
+    (cd "$root" && find crates/*/out -maxdepth 3 -type f \( -path '*/rlib/*/format' -o -path '*/out/*' ! -path '*/out/*/*' \) -print |
+        LC_ALL=C sort | tr '\n' '\0' | xargs -0 sha256sum)
+}
+
+# Notes that rt ci has just proved all that stands here. Where a checkout had work of other commands of rt, rt ci has put that
+# back in the place of its own, and nothing is noted.
+note_proved() {
+    find_kit
+    mkdir -p "$target"
+    for kept in "$root"/crates/*/out/rlib/stamp; do [ ! -f "$kept" ] || return 0; done
+    sum_of_all >"$target/proved"
+}
+
+# Proves crate NAME and what it depends on by a command of rt, unless rt ci has proved all that stands here. What rt says is shown
+# on standard error where it fails.
+prove() { # NAME check|lib|run
+    [ ! -f "$target/proved" ] || [ "$(cat "$target/proved")" != "$(sum_of_all)" ] || return 0
     mkdir -p "$target/log"
-    (cd "$root" && "$rt" check "$1") </dev/null >"$target/log/$1.proof" 2>&1 && return
+    (cd "$root/crates/$1" && "$rt" "$2") </dev/null >"$target/log/$1.proof" 2>&1 && return
     cat "$target/log/$1.proof" >&2
     complain "$1 is not proved"
     exit 1
+}
+
+# Runs a command of the kit's compiler on a crate, over the libraries that stand in crates/*/out.
+over_libraries() { # COMMAND NAME FILE 'DEP..' WORD..
+    verb=$1 crate_name=$2 file=$3 deps=$4
+    shift 4
+    for dep in std $deps; do
+        from=$home/rlibs
+        [ ! -d "$root/crates/$dep" ] || from=$root/crates/$dep/out/rlib
+        set -- "$@" --extern "$dep=$from/$dep.rlib"
+    done
+    for from in "$root"/crates/*/out/rlib "$home/rlibs"; do set -- "$@" -L "dependency=$from"; done
+    "$home/bin/rattle" "$verb" --crate-name "$crate_name" "$file" --antt-project "$home/rattle/logic/antt-project.json" \
+        --logic-built "$home/logic_built" "$@"
 }
 
 # Is there a command of this name?
