@@ -1,6 +1,6 @@
 -- A pool frame has one owner: two addresses whose bytes have one place are the same address of the same root. Assumes nothing.
 use mathlib.Core.Path.{◌≡◌}
-use Prim.Native.Nat.{ℕ, ◌-◌, ◌/◌, ◌%◌, ◌^◌, ◌<◌}
+use Prim.Native.Nat.{ℕ, ◌/◌, ◌%◌, ◌^◌, ◌<◌}
 use native.Mathlib.Omega.{arith}
 use Rattle.store.specs.Store.{Store, Sized, mark, frame_no, pool_no}
 use Rattle.store.specs.WellFormed.{WellFormed}

@@ -1,6 +1,6 @@
 // What the program prints for a line: the command's call is made, and its answer goes into a lent slice.
 ghost use Rattle.std.specs.Prelude.{take};
-ghost use Rattle.io.specs.Counts.{IsPrefixLen};
+ghost use Rattle.std.specs.Counts.{IsPrefixLen};
 ghost use Rattle.store.specs.Store.{store_of};
 ghost use Rattle.program.specs.Answers.{Answered, Printed};
 

@@ -7,7 +7,8 @@ ghost use Rattle.std.specs.Prelude.{◌≤◌, length, take};
 ghost use Rattle.store.specs.Store.{store_of};
 ghost use Rattle.program.specs.Lines.{Told, Step, Fed};
 
-use libc::{STDIN_FILENO, STDOUT_FILENO};
+use std::io;
+use std::io::Read;
 
 // How many bytes of a line have come, and whether to read on.
 #[derive(Drop)]
@@ -16,8 +17,17 @@ struct Turn {
     more: bool,
 }
 
+// Keeps the first failure.
+fn keep_first(outcome: &mut io::Result<()>, next: io::Result<()>) {
+    if outcome.is_ok() {
+        *outcome = next;
+    }
+}
+
 // Prints what a line answers.
 fn print_answer(
+    rt: &impl Print,
+    outcome: &mut io::Result<()>,
     words: &mut [u64; 4096],
     tmarks: &mut [u32; 8],
     bytes: &[u8; 32768],
@@ -29,11 +39,13 @@ fn print_answer(
 {
     let mut out = [0u8; answer::ROOM];
     let n = answer::answer_line(words, tmarks, bytes, fmarks, line, &mut out);
-    io::write_all(STDOUT_FILENO, &out[..n]);
+    keep_first(outcome, rt.write_all(&out[..n]));
 }
 
 // One byte more: a line end has the line answered, any other byte goes to the line, as far as there is room.
 fn take_byte(
+    rt: &impl Print,
+    outcome: &mut io::Result<()>,
     words: &mut [u64; 4096],
     tmarks: &mut [u32; 8],
     bytes: &[u8; 32768],
@@ -48,7 +60,7 @@ fn take_byte(
         (store_of words.new tmarks.new bytes.now fmarks.now) (take result line.new) }
 {
     if b == b'\n' {
-        print_answer(words, tmarks, bytes, fmarks, &line[..n]);
+        print_answer(rt, outcome, words, tmarks, bytes, fmarks, &line[..n]);
         return 0;
     }
     text::put_byte(line, n, b)
@@ -56,6 +68,8 @@ fn take_byte(
 
 // The bytes of one read.
 fn take_all(
+    rt: &impl Print,
+    outcome: &mut io::Result<()>,
     words: &mut [u64; 4096],
     tmarks: &mut [u32; 8],
     bytes: &[u8; 32768],
@@ -72,14 +86,17 @@ fn take_all(
     let mut m = n;
     let mut i = 0;
     while i < s.len() {
-        m = take_byte(words, tmarks, bytes, fmarks, line, m, s[i]);
+        m = take_byte(rt, outcome, words, tmarks, bytes, fmarks, line, m, s[i]);
         i += 1;
     }
     m
 }
 
-// One read.
+// One read. Where it fails, nothing is read any more.
 fn one_read(
+    rt: &impl Print,
+    input: &mut impl Read,
+    outcome: &mut io::Result<()>,
     words: &mut [u64; 4096],
     tmarks: &mut [u32; 8],
     bytes: &[u8; 32768],
@@ -91,18 +108,34 @@ fn one_read(
     ensures { result.n ≤ length line.new }
 {
     let mut buf = [0u8; 4096];
-    let got = libc::read(STDIN_FILENO, &mut buf);
-    if got <= 0 {
-        return Turn { n, more: false };
+    match input.read(&mut buf) {
+        Ok(0) => Turn { n, more: false },
+        Ok(k) => {
+            let m = take_all(
+                rt,
+                outcome,
+                words,
+                tmarks,
+                bytes,
+                fmarks,
+                line,
+                n,
+                &buf[..k],
+            );
+            Turn { n: m, more: true }
+        }
+        Err(e) => {
+            keep_first(outcome, Err(e));
+            Turn { n, more: false }
+        }
     }
-    let k = io::count(got, &buf);
-    let m = take_all(words, tmarks, bytes, fmarks, line, n, &buf[..k]);
-    Turn { n: m, more: true }
 }
 
 // Reads to the end, and answers how many bytes of a last line without a line end are left. A proved loop has to end, and nothing
-// says that the input does: the turns are counted down from a number that no run uses up.
+// says that the input does: the turns are counted, up to a number that no run comes to.
 fn run(
+    rt: &(impl Input + Print),
+    outcome: &mut io::Result<()>,
     words: &mut [u64; 4096],
     tmarks: &mut [u32; 8],
     bytes: &[u8; 32768],
@@ -111,28 +144,48 @@ fn run(
 ) -> usize
     ensures { result ≤ length line.new }
 {
+    let mut input = rt.reader();
     let mut n = 0;
-    let mut turns = u64::MAX;
-    while turns > 0 {
-        let t = one_read(words, tmarks, bytes, fmarks, line, n);
+    for _ in 0..u64::MAX {
+        let t = one_read(
+            rt, &mut input, outcome, words, tmarks, bytes, fmarks, line, n,
+        );
         n = t.n;
         if !t.more {
             return n;
         }
-        turns -= 1;
     }
     n
 }
 
-fn main() {
+// A read or a write that failed ends the run with its error, once the input is read as far as it goes.
+fn main(rt: HostRuntime) -> io::Result<()> {
     let mut words = [0u64; 4096];
     let mut tmarks = [0u32; 8];
     let mut bytes = [0u8; 32768];
     let mut fmarks = [0u32; 8];
     store::set_up(&mut words, &mut tmarks, &mut bytes, &mut fmarks);
     let mut line = [0u8; 129];
-    let n = run(&mut words, &mut tmarks, &bytes, &fmarks, &mut line);
+    let mut outcome = Ok(());
+    let n = run(
+        &rt,
+        &mut outcome,
+        &mut words,
+        &mut tmarks,
+        &bytes,
+        &fmarks,
+        &mut line,
+    );
     if 0 < n {
-        print_answer(&mut words, &mut tmarks, &bytes, &fmarks, &line[..n]);
+        print_answer(
+            &rt,
+            &mut outcome,
+            &mut words,
+            &mut tmarks,
+            &bytes,
+            &fmarks,
+            &line[..n],
+        );
     }
+    outcome
 }

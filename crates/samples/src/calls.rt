@@ -1,12 +1,13 @@
 // Samples of calls, each on a fresh store of some tables and 8 frames, with root 0.
 use super::say::{put, put_number, put_refusal};
 use address::{PhysicalAddress, VirtualAddress};
+use std::io;
 use store::Answer;
 
-fn put_answer(a: Answer) {
+fn put_answer(rt: &impl Print, a: Answer) -> io::Result<()> {
     match a {
-        Answer::Done(v) => put_number(v),
-        Answer::Refused(n) => put_refusal(n),
+        Answer::Done(v) => put_number(rt, v),
+        Answer::Refused(n) => put_refusal(rt, n),
     }
 }
 
@@ -17,7 +18,7 @@ fn start(words: &mut [u64], tmarks: &mut [u32], bytes: &mut [u8], fmarks: &mut [
 }
 
 // What growing from old to new answers with 8 tables, and how many pages are then mapped.
-pub fn growing(name: &[u8], old: u64, new: u64) {
+pub fn growing(rt: &impl Print, name: &str, old: u64, new: u64) -> io::Result<()> {
     let mut words = [0u64; 4096];
     let mut tmarks = [0u32; 8];
     let mut bytes = [0u8; 32768];
@@ -32,53 +33,59 @@ pub fn growing(name: &[u8], old: u64, new: u64) {
         old,
         new,
     );
-    put(name);
-    put_answer(a);
-    put(b" pages");
-    put_number(walk::count_pages(&words, 0, 0, 67108864, 1, 1) as u64);
-    put(b"\n");
+    put(rt, name)?;
+    put_answer(rt, a)?;
+    put(rt, " pages")?;
+    put_number(rt, walk::count_pages(&words, 0, 0, 67108864, 1, 1) as u64)?;
+    put(rt, "\n")
 }
 
 // What this source answers with 8 tables.
-pub fn loading(name: &[u8], src: &[u8]) {
+pub fn loading(rt: &impl Print, name: &str, src: &[u8]) -> io::Result<()> {
     let mut words = [0u64; 4096];
     let mut tmarks = [0u32; 8];
     let mut bytes = [0u8; 32768];
     let mut fmarks = [0u32; 8];
     start(&mut words, &mut tmarks, &mut bytes, &mut fmarks);
     let a = grow::uvm_init(&mut words, &mut tmarks, &mut bytes, &mut fmarks, 0, src);
-    put(name);
-    put_answer(a);
-    put(b"\n");
+    put(rt, name)?;
+    put_answer(rt, a)?;
+    put(rt, "\n")
 }
 
 // What the mapping of one page answers in these tables.
-fn mapping(name: &[u8], words: &mut [u64], tmarks: &mut [u32], perm: u64) {
+fn mapping(
+    rt: &impl Print,
+    name: &str,
+    words: &mut [u64],
+    tmarks: &mut [u32],
+    perm: u64,
+) -> io::Result<()> {
     let mut bytes = [0u8; 32768];
     let mut fmarks = [0u32; 8];
     start(words, tmarks, &mut bytes, &mut fmarks);
     let va = VirtualAddress(4096);
     let pa = PhysicalAddress(0x8000_0000);
     let a = map::map(words, tmarks, &bytes, &fmarks, 0, va, pa, 4096, perm);
-    put(name);
-    put_answer(a);
-    put(b"\n");
+    put(rt, name)?;
+    put_answer(rt, a)?;
+    put(rt, "\n")
 }
 
-pub fn mapping_with_2(name: &[u8], perm: u64) {
+pub fn mapping_with_2(rt: &impl Print, name: &str, perm: u64) -> io::Result<()> {
     let mut words = [0u64; 1024];
     let mut tmarks = [0u32; 2];
-    mapping(name, &mut words, &mut tmarks, perm);
+    mapping(rt, name, &mut words, &mut tmarks, perm)
 }
 
-pub fn mapping_with_3(name: &[u8], perm: u64) {
+pub fn mapping_with_3(rt: &impl Print, name: &str, perm: u64) -> io::Result<()> {
     let mut words = [0u64; 1536];
     let mut tmarks = [0u32; 3];
-    mapping(name, &mut words, &mut tmarks, perm);
+    mapping(rt, name, &mut words, &mut tmarks, perm)
 }
 
-pub fn mapping_with_8(name: &[u8], perm: u64) {
+pub fn mapping_with_8(rt: &impl Print, name: &str, perm: u64) -> io::Result<()> {
     let mut words = [0u64; 4096];
     let mut tmarks = [0u32; 8];
-    mapping(name, &mut words, &mut tmarks, perm);
+    mapping(rt, name, &mut words, &mut tmarks, perm)
 }

@@ -1,21 +1,19 @@
 // What is printed.
-use libc::STDOUT_FILENO;
+use std::io;
 
-pub fn put(text: &[u8]) {
-    io::write_all(STDOUT_FILENO, text);
+pub fn put(rt: &impl Print, text: &str) -> io::Result<()> {
+    rt.print(text)
 }
 
-pub fn put_number(n: u64) {
-    put(b" ");
-    io::print_decimal(STDOUT_FILENO, n);
+pub fn put_number(rt: &impl Print, n: u64) -> io::Result<()> {
+    print!(rt; " {n}")
 }
 
-pub fn put_word(n: u64) {
-    put(b" 0x");
-    io::print_hex(STDOUT_FILENO, n, 1);
+pub fn put_word(rt: &impl Print, n: u64) -> io::Result<()> {
+    print!(rt; " 0x{n:x}")
 }
 
-pub fn put_refusal(n: u64) {
-    put(b" no");
-    put_number(n);
+pub fn put_refusal(rt: &impl Print, n: u64) -> io::Result<()> {
+    put(rt, " no")?;
+    put_number(rt, n)
 }

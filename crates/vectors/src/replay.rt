@@ -2,6 +2,7 @@
 ghost use Rattle.std.specs.Prelude.{◌+◌, ◌^◌, ◌<◌, ◌≤◌};
 
 use super::{calls, digest, list, rows, say};
+use std::io;
 
 const EQUAL: u64 = 0;
 
@@ -21,26 +22,27 @@ pub struct Found {
 
 // Makes the call of a row, and says what comes of it; where it is not as it must be, it is printed.
 fn kind(
+    rt: &impl Print,
     row: usize,
     words: &mut [u64],
     tmarks: &mut [u32],
     bytes: &mut [u8],
     fmarks: &mut [u32],
     lent: &mut [u8],
-) -> u64 {
+) -> io::Result<u64> {
     let reply = calls::made(row, words, tmarks, bytes, fmarks, lent);
     let after = digest::digest(words, bytes, lent);
     if !rows::agrees(row, reply, after) {
-        say::wrong(row, reply, after);
-        return WRONG;
+        say::wrong(rt, row, reply, after)?;
+        return Ok(WRONG);
     }
     if rows::call(row) == 0 {
-        return FRESH;
+        return Ok(FRESH);
     }
     if rows::listed(row) != 0 {
-        return LISTED;
+        return Ok(LISTED);
     }
-    EQUAL
+    Ok(EQUAL)
 }
 
 // One more where it is so.
@@ -56,26 +58,27 @@ fn counted(n: u64, so: bool) -> u64
 
 // Every row in turn; those of a fresh store are not counted.
 pub fn all(
+    rt: &impl Print,
     words: &mut [u64],
     tmarks: &mut [u32],
     bytes: &mut [u8],
     fmarks: &mut [u32],
     lent: &mut [u8],
-) -> Found {
+) -> io::Result<Found> {
     let mut equal = 0;
     let mut listed = 0;
     let mut wrong = 0;
     let mut row = 0;
     while row < list::ROWS {
-        let kind = kind(row, words, tmarks, bytes, fmarks, lent);
+        let kind = kind(rt, row, words, tmarks, bytes, fmarks, lent)?;
         equal = counted(equal, kind == EQUAL);
         listed = counted(listed, kind == LISTED);
         wrong = counted(wrong, kind == WRONG);
         row += 1;
     }
-    Found {
+    Ok(Found {
         equal,
         listed,
         wrong,
-    }
+    })
 }

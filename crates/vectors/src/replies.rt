@@ -4,7 +4,7 @@ use page_table_entry::EntryAnswer;
 use store::Answer;
 
 // Number 0 and the value, or the number of the refusal and 0.
-#[derive(Drop)]
+#[derive(Clone, Copy)]
 pub struct Reply {
     pub number: u64,
     pub value: u64,

@@ -1,26 +1,20 @@
 // What is printed.
 use super::replies::Reply;
-use libc::STDOUT_FILENO;
+use std::io;
 
-fn put(text: &[u8]) {
-    io::write_all(STDOUT_FILENO, text);
+fn put(rt: &impl Print, text: &str) -> io::Result<()> {
+    rt.print(text)
 }
 
 // A number, then what it counts.
-pub fn count(n: u64, what: &[u8]) {
-    io::print_decimal(STDOUT_FILENO, n);
-    put(what);
+pub fn count(rt: &impl Print, n: u64, what: &str) -> io::Result<()> {
+    rt.print(n)?;
+    put(rt, what)
 }
 
 // A row that is not as it must be, with what comes out here.
-pub fn wrong(row: usize, reply: Reply, digest: u64) {
-    put(b"row ");
-    io::print_decimal(STDOUT_FILENO, row as u64);
-    put(b": number ");
-    io::print_decimal(STDOUT_FILENO, reply.number);
-    put(b", value 0x");
-    io::print_hex(STDOUT_FILENO, reply.value, 1);
-    put(b", digest 0x");
-    io::print_hex(STDOUT_FILENO, digest, 1);
-    put(b"\n");
+pub fn wrong(rt: &impl Print, row: usize, reply: Reply, digest: u64) -> io::Result<()> {
+    let number = reply.number;
+    let value = reply.value;
+    println!(rt; "row {row}: number {number}, value 0x{value:x}, digest 0x{digest:x}")
 }

@@ -1,9 +1,9 @@
 -- What a call that names a root and a page learns on its way. Assumes nothing.
 use mathlib.Core.Path.{◌≡◌, sym, ap, ◌∙◌}
-use mathlib.Core.Bool.{Bool, true, false, not}
+use mathlib.Core.Bool.{Bool, true, false}
 use Prim.Native.Nat.{ℕ, ◌<◌}
 use native.Mathlib.Omega.{arith}
-use borrow.Author.Tests.{eqb-true, eqb-false, not-true, not-false}
+use borrow.Author.Tests.{eqb-true, eqb-false}
 use Rattle.address.specs.Field.{bit}
 use Rattle.page_table_entry.specs.Layout.{has}
 use Rattle.store.specs.Store.{Store, Sized, mark}

@@ -1,9 +1,9 @@
 -- `child::child::copy_frame` meets its contract. The invariant: the first i bytes have gone over. Assumes nothing.
-use Prim.Native.Nat.{◌-◌, ◌*◌, ◌≤◌}
+use Prim.Native.Nat.{◌*◌}
 use borrow.Author.Rules.{rules}
-use lib.ListN.{length, drop}
-use lib.Seq.{paste, paste-zero}
-use mathlib.Core.Path.{◌≡◌, ◌∙◌}
+use lib.ListN.{drop}
+use lib.Seq.{paste-zero}
+use mathlib.Core.Path.{◌∙◌}
 use Rattle.child.proofs.FrameCopy.{copy_more, copied}
 use Rattle.child.proofs.child.copy_frame.Goals as goal
 

@@ -1,10 +1,8 @@
 -- The invariants of the loops.
 use Prim.Native.Nat.{◌-◌, ◌*◌, ◌≤◌}
-use borrow.Author.Rules.{rules}
 use lib.ListN.{length, drop}
-use lib.Seq.{paste, paste-zero}
-use mathlib.Core.Path.{◌≡◌, ◌∙◌}
-use Rattle.child.proofs.FrameCopy.{copy_more, copied}
+use lib.Seq.{paste}
+use mathlib.Core.Path.{◌≡◌}
 use Rattle.child.proofs.child.copy_frame.Given as goal
 
 abbrev pub invariant-loop-i : goal.invariant-loop-i

@@ -1,10 +1,8 @@
 -- `child::child::copy_pages` meets its contract. The invariant: the pages before i have gone over, and the parent's are as they were. Assumes nothing.
-use Prim.Native.Nat.{◌-◌, ◌/◌}
+use Prim.Native.Nat.{◌/◌}
 use borrow.Author.Rules.{rules}
-use lib.ListN.{length}
-use mathlib.Core.Path.{◌≡◌}
 use native.Mathlib.Omega.{arith}
-use Rattle.child.proofs.ChildLoop.{Copying, start, may_walk, fits, flags_fit, in_pool_lem, frame_small, may_copy, after}
+use Rattle.child.proofs.ChildLoop.{start, may_walk, fits, flags_fit, in_pool_lem, frame_small, may_copy, after}
 use Rattle.child.specs.Child.{page_flags, page_bytes}
 use Rattle.fresh.proofs.GrowLoop.{done}
 use Rattle.store.specs.Store.{store_of}

@@ -1,12 +1,8 @@
 -- The invariants of the loops.
-use Prim.Native.Nat.{◌-◌, ◌/◌}
-use borrow.Author.Rules.{rules}
+use Prim.Native.Nat.{◌-◌}
 use lib.ListN.{length}
 use mathlib.Core.Path.{◌≡◌}
-use native.Mathlib.Omega.{arith}
-use Rattle.child.proofs.ChildLoop.{Copying, start, may_walk, fits, flags_fit, in_pool_lem, frame_small, may_copy, after}
-use Rattle.child.specs.Child.{page_flags, page_bytes}
-use Rattle.fresh.proofs.GrowLoop.{done}
+use Rattle.child.proofs.ChildLoop.{Copying}
 use Rattle.store.specs.Store.{store_of}
 use Rattle.child.proofs.child.copy_pages.Given as goal
 

@@ -1,6 +1,5 @@
 -- `child::child::judge_child` meets its contract. Assumes nothing.
 use Prim.Native.Nat.{◌/◌}
-use borrow.Author.Rules.{rules}
 use mathlib.Core.Path.{sym, ◌∙◌}
 use native.Mathlib.Omega.{arith}
 use Rattle.child.proofs.ChildPages.{no_11, no_14, no_15, by_fresh}

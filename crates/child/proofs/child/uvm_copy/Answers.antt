@@ -1,5 +1,4 @@
 -- `child::child::uvm_copy` meets its contract. Assumes nothing.
-use borrow.Author.Rules.{rules}
 use Rattle.child.proofs.ChildLaws.{refuse, done}
 use Rattle.store.specs.Store.{store_of}
 use Rattle.child.proofs.child.uvm_copy.Goals as goal

@@ -1,5 +1,4 @@
 -- `copies::bytes::place` meets its contract. Assumes nothing.
-use borrow.Author.Rules.{rules}
 use native.Mathlib.Omega.{arith}
 use Rattle.copies.proofs.PageReasons.{place_word, place_is}
 use Rattle.copies.proofs.bytes.place.Goals as goal

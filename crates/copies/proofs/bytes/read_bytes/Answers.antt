@@ -1,11 +1,11 @@
 -- `copies::bytes::read_bytes` meets its contract. The invariant: the first i bytes are read. Assumes nothing.
-use Prim.Native.Nat.{◌+◌, ◌-◌, ◌≤◌, ◌<◌}
+use Prim.Native.Nat.{◌+◌, ◌<◌}
 use borrow.Author.Rules.{rules}
 use lib.ListN.{length}
 use mathlib.Core.Logic.{inl}
-use mathlib.Core.Path.{◌≡◌, sym, ◌∙◌}
+use mathlib.Core.Path.{sym, ◌∙◌}
 use native.Mathlib.Omega.{arith}
-use Rattle.copies.proofs.BytesCode.{part_length, turn, turn_less, Reading, read_start, read_more, read_all}
+use Rattle.copies.proofs.BytesCode.{part_length, turn, turn_less, read_start, read_more, read_all}
 use Rattle.copies.proofs.BytesLaws.{page_room}
 use Rattle.copies.proofs.PageReasons.{placed}
 use Rattle.store.specs.Store.{store_of}

@@ -1,13 +1,8 @@
 -- The invariants of the loops.
-use Prim.Native.Nat.{◌+◌, ◌-◌, ◌≤◌, ◌<◌}
-use borrow.Author.Rules.{rules}
+use Prim.Native.Nat.{◌-◌, ◌≤◌}
 use lib.ListN.{length}
-use mathlib.Core.Logic.{inl}
-use mathlib.Core.Path.{◌≡◌, sym, ◌∙◌}
-use native.Mathlib.Omega.{arith}
-use Rattle.copies.proofs.BytesCode.{part_length, turn, turn_less, Reading, read_start, read_more, read_all}
-use Rattle.copies.proofs.BytesLaws.{page_room}
-use Rattle.copies.proofs.PageReasons.{placed}
+use mathlib.Core.Path.{◌≡◌}
+use Rattle.copies.proofs.BytesCode.{Reading}
 use Rattle.store.specs.Store.{store_of}
 use Rattle.copies.proofs.bytes.read_bytes.Given as goal
 

@@ -1,11 +1,10 @@
 -- `copies::bytes::write_bytes` meets its contract. The invariant: the bytes that are left to write give the whole. Assumes nothing.
-use Prim.Native.Nat.{◌+◌, ◌-◌, ◌≤◌}
+use Prim.Native.Nat.{◌+◌}
 use borrow.Author.Rules.{rules}
-use lib.ListN.{length}
 use mathlib.Core.Logic.{inl}
-use mathlib.Core.Path.{◌≡◌, refl, sym, ◌∙◌}
+use mathlib.Core.Path.{refl, sym, ◌∙◌}
 use native.Mathlib.Omega.{arith}
-use Rattle.copies.proofs.BytesCode.{part_length, turn, turn_less, Writing, write_start, write_more, write_all}
+use Rattle.copies.proofs.BytesCode.{part_length, turn, turn_less, write_start, write_more, write_all}
 use Rattle.copies.proofs.BytesLaws.{page_room}
 use Rattle.copies.proofs.PageReasons.{placed}
 use Rattle.store.specs.Store.{store_of}

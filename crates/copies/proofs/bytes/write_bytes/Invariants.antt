@@ -1,13 +1,8 @@
 -- The invariants of the loops.
-use Prim.Native.Nat.{◌+◌, ◌-◌, ◌≤◌}
-use borrow.Author.Rules.{rules}
+use Prim.Native.Nat.{◌-◌, ◌≤◌}
 use lib.ListN.{length}
-use mathlib.Core.Logic.{inl}
-use mathlib.Core.Path.{◌≡◌, refl, sym, ◌∙◌}
-use native.Mathlib.Omega.{arith}
-use Rattle.copies.proofs.BytesCode.{part_length, turn, turn_less, Writing, write_start, write_more, write_all}
-use Rattle.copies.proofs.BytesLaws.{page_room}
-use Rattle.copies.proofs.PageReasons.{placed}
+use mathlib.Core.Path.{◌≡◌}
+use Rattle.copies.proofs.BytesCode.{Writing}
 use Rattle.store.specs.Store.{store_of}
 use Rattle.copies.proofs.bytes.write_bytes.Given as goal
 

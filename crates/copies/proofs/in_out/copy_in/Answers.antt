@@ -1,5 +1,4 @@
 -- `copies::in_out::copy_in` meets its contract. Assumes nothing.
-use borrow.Author.Rules.{rules}
 use Rattle.copies.proofs.InOutLaws.{in_refused, in_done}
 use Rattle.store.specs.Store.{store_of}
 use Rattle.copies.proofs.in_out.copy_in.Goals as goal

@@ -1,5 +1,4 @@
 -- `copies::in_out::copy_out` meets its contract. Assumes nothing.
-use borrow.Author.Rules.{rules}
 use Rattle.copies.proofs.InOutLaws.{out_refused, out_done}
 use Rattle.store.specs.Store.{store_of}
 use Rattle.copies.proofs.in_out.copy_out.Goals as goal

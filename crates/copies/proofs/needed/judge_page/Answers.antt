@@ -1,5 +1,4 @@
 -- `copies::needed::judge_page` meets its contract. Assumes nothing.
-use borrow.Author.Rules.{rules}
 use native.Mathlib.Omega.{arith}
 use Rattle.copies.proofs.PageReasons.{no_6, no_11, no_12, no_15, all_ready}
 use Rattle.store.specs.Store.{store_of}

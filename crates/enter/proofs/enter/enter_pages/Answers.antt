@@ -1,11 +1,8 @@
 -- `enter::enter::enter_pages` meets its contract. The invariant: the pages before i are entered, and entering the rest gives the whole. Assumes nothing.
-use mathlib.Core.Path.{◌≡◌}
-use Prim.Native.Nat.{◌-◌}
-use lib.ListN.{length}
 use native.Mathlib.Omega.{arith}
 use borrow.Author.Rules.{rules}
 use Rattle.store.specs.Store.{store_of}
-use Rattle.enter.proofs.Going.{Going, start, page, small, can, after, done}
+use Rattle.enter.proofs.Going.{start, page, small, can, after, done}
 use Rattle.enter.proofs.enter.enter_pages.Goals as goal
 
 pub loop-i-init : goal.loop-i-init

@@ -2,10 +2,8 @@
 use mathlib.Core.Path.{◌≡◌}
 use Prim.Native.Nat.{◌-◌}
 use lib.ListN.{length}
-use native.Mathlib.Omega.{arith}
-use borrow.Author.Rules.{rules}
 use Rattle.store.specs.Store.{store_of}
-use Rattle.enter.proofs.Going.{Going, start, page, small, can, after, done}
+use Rattle.enter.proofs.Going.{Going}
 use Rattle.enter.proofs.enter.enter_pages.Given as goal
 
 abbrev pub invariant-loop-i : goal.invariant-loop-i

@@ -1,6 +1,5 @@
 -- `enter::enter::hang` meets its contract. Assumes nothing.
 use native.Mathlib.Omega.{arith}
-use borrow.Author.Rules.{rules}
 use Rattle.store.proofs.Free.{lowest_le}
 use Rattle.enter.proofs.Slots.{hung_kept, hung_new}
 use Rattle.enter.proofs.enter.hang.Goals as goal

@@ -1,6 +1,5 @@
 -- `enter::enter::hang_tables` meets its contract. Assumes nothing.
 use native.Mathlib.Omega.{arith}
-use borrow.Author.Rules.{rules}
 use Rattle.enter.proofs.Slots.{same_marks, fits, both_hung}
 use Rattle.enter.proofs.enter.hang_tables.Goals as goal
 

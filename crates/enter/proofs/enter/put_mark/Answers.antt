@@ -1,7 +1,6 @@
 -- `enter::enter::put_mark` meets its contract. Assumes nothing.
 use mathlib.Core.Path.{sym}
 use lib.Seq.{set_out}
-use borrow.Author.Rules.{rules}
 use Rattle.enter.proofs.enter.put_mark.Goals as goal
 
 pub returns-else-t-tmarks : goal.returns-else-t-tmarks

@@ -1,10 +1,7 @@
 -- `enter::enter::put_run` meets its contract. The invariant: the slots before i are written, and writing the rest gives the whole. Assumes nothing.
-use mathlib.Core.Path.{◌≡◌}
-use Prim.Native.Nat.{◌-◌, ◌≤◌}
-use lib.ListN.{length}
 use native.Mathlib.Omega.{arith}
 use borrow.Author.Rules.{rules}
-use Rattle.enter.proofs.PutRun.{Putting, run_start, run_next, run_done}
+use Rattle.enter.proofs.PutRun.{run_start, run_next, run_done}
 use Rattle.enter.proofs.enter.put_run.Goals as goal
 
 pub loop-i-init : goal.loop-i-init

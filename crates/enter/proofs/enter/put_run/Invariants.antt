@@ -2,9 +2,7 @@
 use mathlib.Core.Path.{◌≡◌}
 use Prim.Native.Nat.{◌-◌, ◌≤◌}
 use lib.ListN.{length}
-use native.Mathlib.Omega.{arith}
-use borrow.Author.Rules.{rules}
-use Rattle.enter.proofs.PutRun.{Putting, run_start, run_next, run_done}
+use Rattle.enter.proofs.PutRun.{Putting}
 use Rattle.enter.proofs.enter.put_run.Given as goal
 
 abbrev pub invariant-loop-i : goal.invariant-loop-i

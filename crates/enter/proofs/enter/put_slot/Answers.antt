@@ -1,5 +1,4 @@
 -- `enter::enter::put_slot` meets its contract. Assumes nothing.
-use borrow.Author.Rules.{rules}
 use Rattle.enter.proofs.Slots.{put_low, put_in, put_past}
 use Rattle.enter.proofs.enter.put_slot.Goals as goal
 

@@ -1,5 +1,4 @@
 -- `fresh::fresh::enter_frame` meets its contract. Assumes nothing.
-use borrow.Author.Rules.{rules}
 use Rattle.fresh.proofs.FrameCode.{slot_fits, frame_entered}
 use Rattle.fresh.proofs.fresh.enter_frame.Goals as goal
 

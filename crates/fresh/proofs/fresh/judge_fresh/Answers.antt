@@ -1,7 +1,6 @@
 -- `fresh::fresh::judge_fresh` meets its contract. Assumes nothing.
-use borrow.Author.Rules.{rules}
 use native.Mathlib.Omega.{arith}
-use Rattle.store.proofs.Tests.{not_left, not_taken, no, yes}
+use Rattle.store.proofs.Tests.{no, yes}
 use Rattle.fresh.proofs.FreshReasons.{no_14, no_16, no_17, all_ready}
 use Rattle.store.specs.Store.{store_of}
 use Rattle.walk.proofs.Calls.{root_in}

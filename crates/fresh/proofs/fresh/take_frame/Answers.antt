@@ -1,5 +1,4 @@
 -- `fresh::fresh::take_frame` meets its contract. Assumes nothing.
-use borrow.Author.Rules.{rules}
 use native.Mathlib.Omega.{arith}
 use Rattle.store.proofs.Free.{lowest_le}
 use Rattle.fresh.proofs.fresh.take_frame.Goals as goal

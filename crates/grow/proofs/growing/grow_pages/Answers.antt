@@ -1,12 +1,9 @@
 -- `grow::growing::grow_pages` meets its contract. The invariant: the pages before i have their frames, and going on gives the whole. Assumes nothing.
-use Prim.Native.Nat.{◌-◌}
 use borrow.Author.Rules.{rules}
-use lib.ListN.{length}
-use mathlib.Core.Path.{◌≡◌}
 use native.Mathlib.Omega.{arith}
 use Rattle.fresh.proofs.FreshPages.{growable}
 use Rattle.grow.proofs.GrowCode.{page, frame_in, after}
-use Rattle.fresh.proofs.GrowLoop.{Growing, start, fits, done}
+use Rattle.fresh.proofs.GrowLoop.{start, fits, done}
 use Rattle.grow.specs.Grow.{zeroed}
 use Rattle.store.specs.Store.{store_of}
 use Rattle.grow.proofs.growing.grow_pages.Goals as goal

@@ -1,5 +1,4 @@
 -- `grow::growing::judge_grow` meets its contract. Assumes nothing.
-use borrow.Author.Rules.{rules}
 use Rattle.grow.proofs.GrowReasons.{by_sizes, asked, by_pages, no_pages}
 use Rattle.store.specs.Store.{store_of}
 use Rattle.grow.proofs.growing.judge_grow.Goals as goal

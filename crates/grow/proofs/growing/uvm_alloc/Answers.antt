@@ -1,5 +1,4 @@
 -- `grow::growing::uvm_alloc` meets its contract. Assumes nothing.
-use borrow.Author.Rules.{rules}
 use Rattle.grow.proofs.GrowLaws.{refuse, may_grow, done_all, done_none}
 use Rattle.store.specs.Store.{store_of}
 use Rattle.grow.proofs.growing.uvm_alloc.Goals as goal

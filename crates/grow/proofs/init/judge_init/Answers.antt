@@ -1,5 +1,4 @@
 -- `grow::init::judge_init` meets its contract. Assumes nothing.
-use borrow.Author.Rules.{rules}
 use native.Mathlib.Omega.{arith}
 use Rattle.grow.proofs.InitReasons.{by_root, no_5, asked, by_page}
 use Rattle.store.specs.Store.{store_of}

@@ -1,5 +1,4 @@
 -- `grow::init::uvm_init` meets its contract. Assumes nothing.
-use borrow.Author.Rules.{rules}
 use native.Mathlib.Omega.{arith}
 use Rattle.fresh.proofs.FrameCode.{frame_length}
 use Rattle.grow.proofs.InitLaws.{refuse, may_enter, frame_in, done}

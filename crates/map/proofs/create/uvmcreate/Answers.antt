@@ -2,10 +2,9 @@
 use mathlib.Core.Path.{refl, ap, ◌∙◌}
 use mathlib.Core.List.{List}
 use Prim.Native.Nat.{ℕ}
-use borrow.Author.Rules.{rules}
 use lib.ListN.{set}
 use Rattle.store.specs.Store.{store_of}
-use Rattle.store.proofs.Tests.{not_left, not_taken, no, yes}
+use Rattle.store.proofs.Tests.{no, yes}
 use Rattle.well_formed.proofs.Verdict.{judged_ok}
 use Rattle.map.proofs.CreateLaws.{not_judged, no_17, clear}
 use Rattle.map.proofs.create.uvmcreate.Goals as goal

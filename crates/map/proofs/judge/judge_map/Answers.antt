@@ -2,7 +2,7 @@
 use native.Mathlib.Omega.{arith}
 use borrow.Author.Rules.{rules}
 use Rattle.store.specs.Store.{store_of}
-use Rattle.store.proofs.Tests.{not_left, not_taken, no, yes}
+use Rattle.store.proofs.Tests.{no, yes}
 use Rattle.walk.proofs.Calls.{root_in}
 use Rattle.map.proofs.ReasonLaws.{by_root, no_numbers_lem, nothing, no_14, no_17, all_ready}
 use Rattle.map.proofs.judge.judge_map.Goals as goal

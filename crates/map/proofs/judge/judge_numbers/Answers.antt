@@ -1,6 +1,5 @@
 -- `map::judge::judge_numbers` meets its contract. Assumes nothing.
 use mathlib.Core.Path.{refl}
-use borrow.Author.Rules.{rules}
 use Rattle.map.proofs.NumberLaws.{long, none_perm, none, high, perm_high, above, before_window, after_window, in_window_lem}
 use Rattle.map.proofs.judge.judge_numbers.Goals as goal
 

@@ -1,6 +1,5 @@
 -- `map::mapping::map` meets its contract. Assumes nothing.
 use mathlib.Core.Path.{ap}
-use borrow.Author.Rules.{rules}
 use Rattle.page_table_entry.specs.Built.{entry_said}
 use Rattle.store.specs.Store.{store_of}
 use Rattle.map.proofs.MapLaws.{refuse, done_none, never, pages_asked, can_enter, done}

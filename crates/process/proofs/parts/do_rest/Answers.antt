@@ -1,5 +1,4 @@
 -- `process::parts::do_rest` meets its contract. Assumes nothing.
-use borrow.Author.Rules.{rules}
 use Rattle.process.proofs.RestLaws.{small, may_leave, may_free_rest, rest_done}
 use Rattle.store.specs.Store.{store_of}
 use Rattle.process.proofs.parts.do_rest.Goals as goal

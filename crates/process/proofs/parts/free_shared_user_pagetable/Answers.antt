@@ -1,5 +1,4 @@
 -- `process::parts::free_shared_user_pagetable` meets its contract. Assumes nothing.
-use borrow.Author.Rules.{rules}
 use Rattle.process.proofs.PageLaws.{shared_rest, shared_done}
 use Rattle.store.specs.Store.{store_of}
 use Rattle.process.proofs.parts.free_shared_user_pagetable.Goals as goal

@@ -1,5 +1,4 @@
 -- `process::parts::judge_proc` meets its contract. Assumes nothing.
-use borrow.Author.Rules.{rules}
 use native.Mathlib.Omega.{arith}
 use Rattle.process.proofs.PageLaws.{proc_refused, root_ready, can_ask, trapframe_refused, proc_judged}
 use Rattle.store.specs.Store.{store_of}

@@ -1,5 +1,4 @@
 -- `process::parts::judge_shared` meets its contract. Assumes nothing.
-use borrow.Author.Rules.{rules}
 use native.Mathlib.Omega.{arith}
 use Rattle.process.proofs.PageLaws.{shared_refused, root_ready, shared_judged}
 use Rattle.store.specs.Store.{store_of}

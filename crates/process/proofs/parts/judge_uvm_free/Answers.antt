@@ -1,5 +1,4 @@
 -- `process::parts::judge_uvm_free` meets its contract. Assumes nothing.
-use borrow.Author.Rules.{rules}
 use native.Mathlib.Omega.{arith}
 use Rattle.process.proofs.CutLaws.{root_refused, rest_judged}
 use Rattle.store.specs.Store.{store_of}

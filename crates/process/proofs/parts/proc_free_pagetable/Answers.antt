@@ -1,5 +1,4 @@
 -- `process::parts::proc_free_pagetable` meets its contract. Assumes nothing.
-use borrow.Author.Rules.{rules}
 use Rattle.process.proofs.PageLaws.{can_next, proc_rest, proc_done}
 use Rattle.store.specs.Store.{store_of}
 use Rattle.process.proofs.parts.proc_free_pagetable.Goals as goal

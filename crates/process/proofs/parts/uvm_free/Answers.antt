@@ -1,5 +1,4 @@
 -- `process::parts::uvm_free` meets its contract. Assumes nothing.
-use borrow.Author.Rules.{rules}
 use Rattle.process.proofs.parts.uvm_free.Goals as goal
 
 pub returns-then-no-ne0 : goal.returns-then-no-ne0

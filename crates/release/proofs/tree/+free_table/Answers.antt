@@ -1,12 +1,10 @@
 -- `release::tree::free_table` meets its contract, the level falling at each call. Assumes nothing.
-use mathlib.Core.Path.{◌≡◌, refl, ap, sym, ◌∙◌}
-use Prim.Native.Nat.{ℕ, ◌+◌, ◌-◌, ◌*◌, ◌≤◌, ◌<◌}
+use mathlib.Core.Path.{refl, ap, sym, ◌∙◌}
+use Prim.Native.Nat.{ℕ, ◌+◌, ◌-◌, ◌*◌}
 use native.Mathlib.Omega.{arith}
 use lib.Dec.{lit≤}
-use lib.ListN.{length}
-use borrow.Author.Rules.{rules}
 use Rattle.store.specs.Store.{frame_no, word}
-use Rattle.release.specs.FreeTree.{Trees, trees, wipe, children, free_tree}
+use Rattle.release.specs.FreeTree.{Trees, wipe, children, free_tree}
 use Rattle.release.proofs.FreeTreeLaws.{then_wiped, free_lowest, free_higher, free_small, children_small, turn_past, turn_one, turn_run, alone, within_table}
 use Rattle.release.proofs.tree.+free_table.Goals as goal
 

@@ -1,13 +1,8 @@
 -- The invariants of the loops.
-use mathlib.Core.Path.{◌≡◌, refl, ap, sym, ◌∙◌}
-use Prim.Native.Nat.{ℕ, ◌+◌, ◌-◌, ◌*◌, ◌≤◌, ◌<◌}
-use native.Mathlib.Omega.{arith}
-use lib.Dec.{lit≤}
+use mathlib.Core.Path.{◌≡◌}
+use Prim.Native.Nat.{◌-◌, ◌≤◌}
 use lib.ListN.{length}
-use borrow.Author.Rules.{rules}
-use Rattle.store.specs.Store.{frame_no, word}
-use Rattle.release.specs.FreeTree.{Trees, trees, wipe, children, free_tree}
-use Rattle.release.proofs.FreeTreeLaws.{then_wiped, free_lowest, free_higher, free_small, children_small, turn_past, turn_one, turn_run, alone, within_table}
+use Rattle.release.specs.FreeTree.{trees, children, free_tree}
 use Rattle.release.proofs.tree.+free_table.Given as goal
 
 -- the tables below the first e entries are freed

@@ -1,5 +1,4 @@
 -- `release::tree::free` meets its contract. Assumes nothing.
-use borrow.Author.Rules.{rules}
 use Rattle.release.proofs.FreeLaws.{refuse, may_free, done}
 use Rattle.store.specs.Store.{store_of}
 use Rattle.release.proofs.tree.free.Goals as goal

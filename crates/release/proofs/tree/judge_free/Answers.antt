@@ -1,5 +1,4 @@
 -- `release::tree::judge_free` meets its contract. Assumes nothing.
-use borrow.Author.Rules.{rules}
 use Rattle.release.proofs.FreeReasons.{by_root, can_count, no_18, all_clear}
 use Rattle.store.specs.Store.{store_of}
 use Rattle.release.proofs.tree.judge_free.Goals as goal

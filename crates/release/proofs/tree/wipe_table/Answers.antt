@@ -1,6 +1,5 @@
 -- `release::tree::wipe_table` meets its contract. Assumes nothing.
 use Prim.Native.Nat.{◌+◌, ◌-◌, ◌*◌}
-use borrow.Author.Rules.{rules}
 use mathlib.Core.Path.{refl}
 use native.Mathlib.Omega.{arith}
 use Rattle.release.proofs.FreeTreeLaws.{put_zero}

@@ -1,6 +1,5 @@
 -- `replies::replies::answer_reply` meets its contract. Assumes nothing.
 use mathlib.Core.Path.{sym, ap}
-use borrow.Author.Rules.{rules}
 use Rattle.store.specs.declared.Answer.{Answer}
 use Rattle.store.specs.Outcome.{answer_said}
 use Rattle.replies.specs.Reply.{reply_of}

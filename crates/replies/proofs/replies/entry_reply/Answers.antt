@@ -1,6 +1,5 @@
 -- `replies::replies::entry_reply` meets its contract. Assumes nothing.
 use mathlib.Core.Path.{sym, ap}
-use borrow.Author.Rules.{rules}
 use Rattle.page_table_entry.specs.declared.EntryAnswer.{EntryAnswer}
 use Rattle.page_table_entry.specs.Built.{entry_said}
 use Rattle.replies.specs.Reply.{reply_of}

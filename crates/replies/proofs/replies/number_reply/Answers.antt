@@ -1,6 +1,5 @@
 -- `replies::replies::number_reply` meets its contract. Assumes nothing.
 use mathlib.Core.Path.{sym, ap}
-use borrow.Author.Rules.{rules}
 use Rattle.address.specs.declared.NumberAnswer.{NumberAnswer}
 use Rattle.address.specs.Answer.{number_said}
 use Rattle.replies.specs.Reply.{reply_of}

@@ -1,6 +1,5 @@
 -- `replies::replies::physical_reply` meets its contract. Assumes nothing.
 use mathlib.Core.Path.{sym, ap}
-use borrow.Author.Rules.{rules}
 use Rattle.address.specs.declared.PhysicalAnswer.{PhysicalAnswer}
 use Rattle.address.specs.Answer.{physical_said}
 use Rattle.replies.specs.Reply.{reply_of}

@@ -1,6 +1,5 @@
 -- `replies::replies::str_reply` meets its contract. Assumes nothing.
 use mathlib.Core.Path.{sym, ap}
-use borrow.Author.Rules.{rules}
 use Rattle.strings.specs.Str.{str_said}
 use Rattle.strings.specs.declared.StrAnswer.{StrAnswer}
 use Rattle.replies.specs.Reply.{reply_of}

@@ -1,6 +1,5 @@
 -- `replies::replies::virtual_reply` meets its contract. Assumes nothing.
 use mathlib.Core.Path.{sym, ap}
-use borrow.Author.Rules.{rules}
 use Rattle.address.specs.declared.VirtualAnswer.{VirtualAnswer}
 use Rattle.address.specs.Answer.{virtual_said}
 use Rattle.replies.specs.Reply.{reply_of}

@@ -1,5 +1,4 @@
 -- `shrink::shrink::judge_shrink` meets its contract. Assumes nothing.
-use borrow.Author.Rules.{rules}
 use Rattle.shrink.proofs.ShrinkReasons.{by_sizes, asked, by_pages, no_pages}
 use Rattle.store.specs.Store.{store_of}
 use Rattle.shrink.proofs.shrink.judge_shrink.Goals as goal

@@ -1,5 +1,4 @@
 -- `shrink::shrink::uvm_dealloc` meets its contract. Assumes nothing.
-use borrow.Author.Rules.{rules}
 use Rattle.store.specs.Store.{store_of}
 use Rattle.shrink.proofs.ShrinkLaws.{refuse, may_leave, done_all, done_none}
 use Rattle.shrink.proofs.shrink.uvm_dealloc.Goals as goal

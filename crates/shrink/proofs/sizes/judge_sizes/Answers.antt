@@ -1,5 +1,4 @@
 -- `shrink::sizes::judge_sizes` meets its contract. Assumes nothing.
-use borrow.Author.Rules.{rules}
 use mathlib.Core.Logic.{inl, inr}
 use Rattle.shrink.proofs.SizeReasons.{by_root, no_6, all_small}
 use Rattle.store.specs.Store.{store_of}

@@ -1,5 +1,4 @@
 -- `strings::text::copy_in_str` meets its contract. Assumes nothing.
-use borrow.Author.Rules.{rules}
 use lib.Seq.{length-take-le}
 use mathlib.Core.Path.{sym}
 use Rattle.strings.proofs.TextLaws.{refuse_root, refuse_way, within, may_read, done}

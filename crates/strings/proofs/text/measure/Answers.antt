@@ -1,9 +1,7 @@
 -- `strings::text::measure` meets its contract. The invariant: the string has been followed up to byte i, whose page is needed. Assumes nothing.
-use Prim.Native.Nat.{◌-◌}
-use borrow.Author.Rules.{rules}
 use native.Mathlib.Omega.{arith}
 use Rattle.copies.proofs.PageReasons.{placed}
-use Rattle.strings.proofs.TextCode.{Following, start, upto, fits, refuse, room, met, whole, again}
+use Rattle.strings.proofs.TextCode.{start, upto, fits, refuse, room, met, whole, again}
 use Rattle.store.specs.Store.{store_of}
 use Rattle.strings.proofs.text.measure.Goals as goal
 

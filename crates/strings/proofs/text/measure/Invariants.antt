@@ -1,9 +1,6 @@
 -- The invariants of the loops.
 use Prim.Native.Nat.{◌-◌}
-use borrow.Author.Rules.{rules}
-use native.Mathlib.Omega.{arith}
-use Rattle.copies.proofs.PageReasons.{placed}
-use Rattle.strings.proofs.TextCode.{Following, start, upto, fits, refuse, room, met, whole, again}
+use Rattle.strings.proofs.TextCode.{Following}
 use Rattle.store.specs.Store.{store_of}
 use Rattle.strings.proofs.text.measure.Given as goal
 

@@ -1,10 +1,7 @@
 -- `strings::text::no_zero` meets its contract. The invariant: the least byte so far is 0 exactly if the first zero is before i. Assumes nothing.
-use mathlib.Core.Path.{◌≡◌}
-use Prim.Native.Nat.{◌-◌, ◌≤◌, ◌<◌}
 use native.Mathlib.Omega.{arith}
 use native.Mathlib.Numerals.{add-one}
 use borrow.Author.Rules.{rules}
-use Rattle.store.specs.Count.{lowest}
 use Rattle.store.proofs.Free.{lowest_here, lowest_next}
 use Rattle.strings.proofs.text.no_zero.Goals as goal
 

@@ -1,11 +1,7 @@
 -- The invariants of the loops.
 use mathlib.Core.Path.{◌≡◌}
 use Prim.Native.Nat.{◌-◌, ◌≤◌, ◌<◌}
-use native.Mathlib.Omega.{arith}
-use native.Mathlib.Numerals.{add-one}
-use borrow.Author.Rules.{rules}
 use Rattle.store.specs.Count.{lowest}
-use Rattle.store.proofs.Free.{lowest_here, lowest_next}
 use Rattle.strings.proofs.text.no_zero.Given as goal
 
 abbrev pub invariant-loop-i : goal.invariant-loop-i

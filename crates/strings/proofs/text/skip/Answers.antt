@@ -1,11 +1,8 @@
 -- `strings::text::skip` meets its contract. The invariant: the first zero is not before i. Assumes nothing.
-use Prim.Native.Nat.{◌-◌, ◌≤◌}
 use native.Mathlib.Omega.{arith}
 use borrow.Author.Rules.{rules}
-use lib.ListN.{length}
-use Rattle.store.specs.Count.{lowest}
 use Rattle.store.proofs.Free.{lowest_le}
-use Rattle.store.proofs.Tests.{not_left, yes}
+use Rattle.store.proofs.Tests.{yes}
 use Rattle.strings.proofs.text.skip.Goals as goal
 
 pub overflow_sub-part : goal.overflow_sub-part

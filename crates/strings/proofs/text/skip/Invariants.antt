@@ -1,11 +1,7 @@
 -- The invariants of the loops.
 use Prim.Native.Nat.{◌-◌, ◌≤◌}
-use native.Mathlib.Omega.{arith}
-use borrow.Author.Rules.{rules}
 use lib.ListN.{length}
 use Rattle.store.specs.Count.{lowest}
-use Rattle.store.proofs.Free.{lowest_le}
-use Rattle.store.proofs.Tests.{not_left}
 use Rattle.strings.proofs.text.skip.Given as goal
 
 abbrev pub invariant-loop-i : goal.invariant-loop-i

@@ -1,10 +1,6 @@
 -- `strings::text::zero_from` meets its contract. The invariant: the first zero is not before i. Assumes nothing.
-use Prim.Native.Nat.{◌-◌, ◌≤◌}
 use native.Mathlib.Omega.{arith}
 use native.Mathlib.Numerals.{add-one}
-use borrow.Author.Rules.{rules}
-use lib.ListN.{length}
-use Rattle.store.specs.Count.{lowest}
 use Rattle.store.proofs.Free.{lowest_here, lowest_next, lowest_le}
 use Rattle.strings.proofs.text.zero_from.Goals as goal
 

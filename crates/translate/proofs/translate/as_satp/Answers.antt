@@ -1,7 +1,6 @@
 -- `translate::translate::as_satp` meets its contract. Assumes nothing.
 use mathlib.Core.Path.{refl}
 use native.Mathlib.Omega.{arith}
-use borrow.Author.Rules.{rules}
 use Rattle.store.specs.Store.{store_of}
 use Rattle.well_formed.proofs.RootReasons.{root_clear}
 use Rattle.walk.proofs.Calls.{root_in}

@@ -2,7 +2,6 @@
 use mathlib.Core.Path.{refl, ap, ◌∙◌}
 use Prim.Native.Nat.{◌/◌}
 use native.Mathlib.Omega.{arith}
-use borrow.Author.Rules.{rules}
 use Rattle.page_table_entry.specs.Layout.{frame_of}
 use Rattle.store.specs.Store.{store_of}
 use Rattle.walk.proofs.Calls.{root_in, found, has_yes, has_no}

@@ -1,6 +1,5 @@
 -- `unmap::judge::judge_leave` meets its contract. Assumes nothing.
 use native.Mathlib.Omega.{arith}
-use borrow.Author.Rules.{rules}
 use Rattle.store.specs.Store.{store_of}
 use Rattle.store.proofs.Tests.{yes, no}
 use Rattle.walk.proofs.Calls.{root_in}

@@ -1,7 +1,6 @@
 -- `unmap::judge::too_high` meets its contract. Assumes nothing.
 use Prim.Native.Nat.{◌-◌, ◌^◌}
 use native.Mathlib.Omega.{arith}
-use borrow.Author.Rules.{rules}
 use Rattle.unmap.proofs.judge.too_high.Goals as goal
 
 pub returns-then-n-eq0 : goal.returns-then-n-eq0

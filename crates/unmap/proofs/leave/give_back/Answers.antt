@@ -1,7 +1,6 @@
 -- `unmap::leave::give_back` meets its contract. Assumes nothing.
 use mathlib.Core.Path.{◌∙◌}
 use Rattle.unmap.proofs.LeaveSlots.{given_none, given_one}
-use borrow.Author.Rules.{rules}
 use Rattle.unmap.proofs.leave.give_back.Goals as goal
 
 pub returns-then-frame-lt1114112 : goal.returns-then-frame-lt1114112

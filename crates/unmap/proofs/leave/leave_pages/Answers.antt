@@ -1,11 +1,8 @@
 -- `unmap::leave::leave_pages` meets its contract. The invariant: the pages before i have left, and the leaving of the rest gives the whole. Assumes nothing.
-use mathlib.Core.Path.{◌≡◌}
-use Prim.Native.Nat.{◌-◌}
 use native.Mathlib.Omega.{arith}
-use lib.ListN.{length}
 use borrow.Author.Rules.{rules}
 use Rattle.store.specs.Store.{store_of}
-use Rattle.unmap.proofs.LeavePages.{Leaving, leavable, start, page, is_root, can, after, done}
+use Rattle.unmap.proofs.LeavePages.{leavable, start, page, is_root, can, after, done}
 use Rattle.unmap.proofs.leave.leave_pages.Goals as goal
 
 pub loop-i-init : goal.loop-i-init

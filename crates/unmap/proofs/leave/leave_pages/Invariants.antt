@@ -1,11 +1,9 @@
 -- The invariants of the loops.
 use mathlib.Core.Path.{◌≡◌}
 use Prim.Native.Nat.{◌-◌}
-use native.Mathlib.Omega.{arith}
 use lib.ListN.{length}
-use borrow.Author.Rules.{rules}
 use Rattle.store.specs.Store.{store_of}
-use Rattle.unmap.proofs.LeavePages.{Leaving, leavable, start, page, is_root, can, after, done}
+use Rattle.unmap.proofs.LeavePages.{Leaving}
 use Rattle.unmap.proofs.leave.leave_pages.Given as goal
 
 abbrev pub invariant-loop-i : goal.invariant-loop-i

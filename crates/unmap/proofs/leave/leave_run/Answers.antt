@@ -1,9 +1,6 @@
 -- `unmap::leave::leave_run` meets its contract. The invariant: the slots before i are done. Assumes nothing.
-use mathlib.Core.Path.{◌≡◌}
-use Prim.Native.Nat.{◌-◌, ◌≤◌}
 use native.Mathlib.Omega.{arith}
-use lib.ListN.{length}
-use Rattle.unmap.proofs.LeaveSlots.{Going, run_start, run_next, run_done}
+use Rattle.unmap.proofs.LeaveSlots.{run_start, run_next, run_done}
 use borrow.Author.Rules.{rules}
 use Rattle.unmap.proofs.leave.leave_run.Goals as goal
 

@@ -1,10 +1,8 @@
 -- The invariants of the loops.
 use mathlib.Core.Path.{◌≡◌}
 use Prim.Native.Nat.{◌-◌, ◌≤◌}
-use native.Mathlib.Omega.{arith}
 use lib.ListN.{length}
-use Rattle.unmap.proofs.LeaveSlots.{Going, run_start, run_next, run_done}
-use borrow.Author.Rules.{rules}
+use Rattle.unmap.proofs.LeaveSlots.{Going}
 use Rattle.unmap.proofs.leave.leave_run.Given as goal
 
 abbrev pub invariant-loop-i : goal.invariant-loop-i

@@ -1,6 +1,5 @@
 -- `unmap::leave::leave_slot` meets its contract. Assumes nothing.
 use Rattle.unmap.proofs.LeaveSlots.{slot_freed, slot_kept, read}
-use borrow.Author.Rules.{rules}
 use Rattle.unmap.proofs.leave.leave_slot.Goals as goal
 
 pub returns-then-freeing : goal.returns-then-freeing

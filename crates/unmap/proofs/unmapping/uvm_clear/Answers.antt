@@ -1,6 +1,5 @@
 -- `unmap::unmapping::uvm_clear` meets its contract. Assumes nothing.
 use native.Mathlib.Omega.{arith}
-use borrow.Author.Rules.{rules}
 use Rattle.store.specs.Store.{store_of}
 use Rattle.walk.proofs.Calls.{root_in}
 use Rattle.unmap.proofs.ClearLaws.{by_root, no_6, no_11, done}

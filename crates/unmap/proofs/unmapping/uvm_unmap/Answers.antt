@@ -1,5 +1,4 @@
 -- `unmap::unmapping::uvm_unmap` meets its contract. Assumes nothing.
-use borrow.Author.Rules.{rules}
 use Rattle.store.specs.Store.{store_of}
 use Rattle.unmap.proofs.UnmapLaws.{refuse, done_none, may_leave, done_all}
 use Rattle.unmap.proofs.unmapping.uvm_unmap.Goals as goal

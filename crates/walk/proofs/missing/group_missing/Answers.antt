@@ -1,5 +1,4 @@
 -- `walk::missing::group_missing` meets its contract. Assumes nothing.
-use borrow.Author.Rules.{rules}
 use Rattle.walk.proofs.Groups.{group_none, group_some}
 use Rattle.walk.proofs.missing.group_missing.Goals as goal
 

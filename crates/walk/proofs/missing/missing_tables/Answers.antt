@@ -1,9 +1,7 @@
 -- `walk::missing::missing_tables` meets its contract. The invariant: the groups below `group` and the blocks below `block` are counted. Assumes nothing.
 use mathlib.Core.Path.{sym}
-use Prim.Native.Nat.{◌-◌}
 use native.Mathlib.Omega.{arith}
-use borrow.Author.Rules.{rules}
-use Rattle.walk.proofs.Groups.{Counted, counted_none, counted_few, in_group, counted_more, counted_all, missing_empty}
+use Rattle.walk.proofs.Groups.{counted_none, counted_few, in_group, counted_more, counted_all, missing_empty}
 use Rattle.walk.proofs.missing.missing_tables.Goals as goal
 
 pub returns-then-end-first : goal.returns-then-end-first

@@ -1,5 +1,4 @@
 -- `walk::ranges::count_bits` meets its contract. Assumes nothing.
-use borrow.Author.Rules.{rules}
 use Rattle.walk.proofs.ranges.count_bits.Goals as goal
 
 pub returns-then-mask-ne1 : goal.returns-then-mask-ne1

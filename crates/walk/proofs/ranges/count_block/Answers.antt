@@ -1,7 +1,6 @@
 -- `walk::ranges::count_block` meets its contract. Assumes nothing.
 use mathlib.Core.Path.{refl}
 use native.Mathlib.Omega.{arith}
-use borrow.Author.Rules.{rules}
 use Rattle.walk.proofs.RangeLaws.{block_low, block_words}
 use Rattle.walk.proofs.ranges.count_block.Goals as goal
 

@@ -1,10 +1,9 @@
 -- `walk::ranges::count_pages` meets its contract. The invariant: the pages before `page` are counted. Assumes nothing.
-use Prim.Native.Nat.{◌-◌, ◌≤◌}
 use native.Mathlib.Omega.{arith}
 use borrow.Author.Rules.{rules}
 use Rattle.well_formed.proofs.Parts.{over_none, over_done}
 use Rattle.walk.specs.Missing.{entry_in}
-use Rattle.walk.specs.Ranges.{PagesAlike, page_under}
+use Rattle.walk.specs.Ranges.{page_under}
 use Rattle.walk.proofs.RangeLaws.{over_next, page_in_group}
 use Rattle.walk.proofs.ranges.count_pages.Goals as goal
 

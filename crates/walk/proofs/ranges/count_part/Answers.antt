@@ -1,12 +1,8 @@
 -- `walk::ranges::count_part` meets its contract. The invariant: n of the words from a up to i are counted. Assumes nothing.
-use Prim.Native.Nat.{◌≤◌, ◌-◌}
 use native.Mathlib.Omega.{arith}
 use borrow.Author.Rules.{rules}
-use Rattle.store.specs.Store.{word}
 use Rattle.store.proofs.Sums.{same_yes, same_no}
-use Rattle.well_formed.specs.Scan.{Over}
 use Rattle.well_formed.proofs.Parts.{over_none, over_one, over_skip, over_done}
-use Rattle.walk.specs.Ranges.{alike}
 use Rattle.walk.proofs.ranges.count_part.Goals as goal
 
 pub loop-i-init : goal.loop-i-init

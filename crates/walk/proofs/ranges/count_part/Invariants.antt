@@ -1,11 +1,7 @@
 -- The invariants of the loops.
 use Prim.Native.Nat.{◌≤◌, ◌-◌}
-use native.Mathlib.Omega.{arith}
-use borrow.Author.Rules.{rules}
 use Rattle.store.specs.Store.{word}
-use Rattle.store.proofs.Sums.{same_yes, same_no}
 use Rattle.well_formed.specs.Scan.{Over}
-use Rattle.well_formed.proofs.Parts.{over_none, over_one, over_skip, over_done}
 use Rattle.walk.specs.Ranges.{alike}
 use Rattle.walk.proofs.ranges.count_part.Given as goal
 

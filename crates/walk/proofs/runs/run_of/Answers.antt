@@ -1,7 +1,6 @@
 -- `walk::runs::run_of` meets its contract. Assumes nothing.
 use native.Mathlib.Omega.{arith}
-use borrow.Author.Rules.{rules}
-use Rattle.store.proofs.Tests.{not_left, yes}
+use Rattle.store.proofs.Tests.{yes}
 use Rattle.walk.proofs.RangeLaws.{empty_run}
 use Rattle.walk.proofs.runs.run_of.Goals as goal
 

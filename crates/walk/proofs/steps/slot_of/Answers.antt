@@ -1,7 +1,6 @@
 -- `walk::steps::slot_of` meets its contract: three reads, one below the other. Assumes nothing.
 use mathlib.Core.Path.{ap, ◌∙◌}
 use Prim.Native.Nat.{ℕ, ◌/◌, ◌%◌}
-use borrow.Author.Rules.{rules}
 use Rattle.store.specs.Walk.{slot_word, slot_in, slot}
 use Rattle.walk.proofs.steps.slot_of.Goals as goal
 

@@ -1,6 +1,5 @@
 -- `walk::steps::slot_word` meets its contract. Assumes nothing.
 use mathlib.Core.Path.{sym, ◌∙◌}
-use borrow.Author.Rules.{rules}
 use Rattle.store.proofs.Tree.{slot_word_lem}
 use Rattle.walk.proofs.Groups.{slot_none}
 use Rattle.walk.proofs.steps.slot_word.Goals as goal
