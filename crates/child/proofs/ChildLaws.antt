@@ -47,7 +47,7 @@ module _ (s : Store) (parent child size : ℕ) where
   pub one_child : (a a' : Answer) (t t' : Store) → Child s parent child size a t → Child s parent child size a' t' → (a ≡ a') × (t ≡ t')
   one_child = one_outcome (ChildReason s parent child size) (ChildDone s parent child size) (λ v v' t t' x y. (x.0 ∙ sym y.0, x.1 ∙ sym y.1)) s
 
-  -- ---- what a success means, where both are roots of a well_formed store
+  -- ---- what a success means, where both are roots of a well-formed store
 
   module _ (rp : RootReady s parent) (rc : RootReady s child) where
     none_ready : NoReason (ChildReason s parent child size) → ChildReady s parent child size

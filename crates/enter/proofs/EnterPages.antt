@@ -147,7 +147,7 @@ enter_pages_lem (suc n) s r p e c f =
     then s (enter_page s r p e) (enter_pages (enter_page s r p e) r (suc p) n (e + 1024)) r p n e c.root h q.0
     (enter_pages_lem n (enter_page s r p e) r (suc p) (e + 1024) q.1 (omega (arith, q.0.free, m)))
 
--- ---- the count of the missing tables before the first page decides whether there are tables HasEnough at every page
+-- ---- the count of the missing tables before the first page decides whether there are tables enough at every page
 
 unfoldable pub HasEnough : ℕ → Store → ℕ → ℕ → ℕ → Type 0
 HasEnough zero s r p e = Unit {0}

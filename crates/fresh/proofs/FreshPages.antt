@@ -30,7 +30,7 @@ pub record Growable (n : ℕ) (s : Store) (r p : ℕ) : Type 0 where
   pub frames : n ≤ free_frames s
   pub tables : missing s r p n ≤ free_tables s
 
--- what the judge showed is HasEnough
+-- what the judge showed is enough
 pub growable : (s : Store) (r p n : ℕ) → CanFresh s r p n → Growable n s r p
 growable s r p n c =
     let a = c.asked.at_root in

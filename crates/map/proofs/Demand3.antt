@@ -43,7 +43,7 @@ module _ (s : Store) (root va pa size perm : ℕ) where
         outside = λ i l w. ⊎_elim (λ b. omega (arith, w.from)) (λ b. omega (arith, w.upto)) (fit.outside i l);
       };
       unmapped = λ p f t m. let e : p ≡ first_page va + (p - first_page va) = omega arith in room.unmapped (p - first_page va) (omega arith) (subst (Mapped s root) e m);
-      HasEnough = room.tables;
+      enough = room.tables;
     }
 
     kept : Kept s root va pa size perm

@@ -70,7 +70,7 @@ module _ (s : Store) (root va pa size perm : ℕ) where
         can_enter =
             let x = ready s root (first_page va) n (pa / 4096) perm (fit s root va pa size perm f) (room s root va pa size perm f) in
             let c : CanEnter s root (first_page va) n (entry_of (4096 * (pa / 4096)) perm) =
-            record { at_root = f.at_root; pages = x.range; unmapped = x.unmapped; plain = x.plain; tables = f.HasEnough } in
+            record { at_root = f.at_root; pages = x.range; unmapped = x.unmapped; plain = x.plain; tables = f.enough } in
             let k : n ≡ end - first = omega arith in
             subst (CanEnter s root first (end - first)) (sym is)
             (subst (λ (p : ℕ). CanEnter s root p (end - first) (entry_of (4096 * (pa / 4096)) perm)) (sym ef)

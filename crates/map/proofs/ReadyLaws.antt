@@ -25,7 +25,7 @@ module _ (s : Store) (root va pa size perm : ℕ) (ready : MapReady s root va pa
   pub room : Room s root (first_page va) (pages_of va size)
   room = record {
     unmapped = λ i l. ready.unmapped (first_page va + i) (omega arith) (omega arith);
-    tables = ready.HasEnough;
+    tables = ready.enough;
   }
 
   pub ready_entered : Entered s root (first_page va) (pages_of va size) (pa / 4096) perm (enter_pages s root (first_page va) (pages_of va size) (entry_of pa perm))

@@ -81,7 +81,7 @@ module _ (s : Store) (root va pa size perm : ℕ) where
             at_root = r;
             numbers = o;
             unmapped = λ p f t. absurd (omega arith);
-            HasEnough = let q : pages_of va size ≡ 0 = omega arith in omega (arith, ap (missing s root (first_page va)) q, missing_none s root (first_page va));
+            enough = let q : pages_of va size ≡ 0 = omega arith in omega (arith, ap (missing s root (first_page va)) q, missing_none s root (first_page va));
           })
 
       module _ (h : first < end) where
@@ -112,8 +112,8 @@ module _ (s : Store) (root va pa size perm : ℕ) where
 
             pub all_ready : m ≤ free_tables s → Judges R F 0
             all_ready l =
-                judges_ok R F 0 refl (record { at_root = r; numbers = o; unmapped = free_range n; HasEnough = omega (arith, lacks m em) })
+                judges_ok R F 0 refl (record { at_root = r; numbers = o; unmapped = free_range n; enough = omega (arith, lacks m em) })
 
   -- where the call is ready no reason applies
   pub clear : F → NoReason R
-  clear f k = least f.at_root (suc k) (λ j l. ready_least va pa size perm f.numbers j (suc k) l) (λ l. f.unmapped) (λ l. f.HasEnough) k (le_refl (suc k))
+  clear f k = least f.at_root (suc k) (λ j l. ready_least va pa size perm f.numbers j (suc k) l) (λ l. f.unmapped) (λ l. f.enough) k (le_refl (suc k))

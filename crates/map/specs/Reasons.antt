@@ -19,4 +19,4 @@ pub record MapReady (s : Store) (root va pa size perm : ℕ) : Type 0 where
   pub at_root : RootReady s root
   pub numbers : NumbersReady va pa size perm
   pub unmapped : (p : ℕ) → first_page va ≤ p → p < end_page va size → Mapped s root p → ⊥
-  pub HasEnough : missing s root (first_page va) (pages_of va size) ≤ free_tables s
+  pub enough : missing s root (first_page va) (pages_of va size) ≤ free_tables s

@@ -18,7 +18,7 @@ use Rattle.process.specs.PartsReady.{JudgesParts, RestReady, PageReady, SharedRe
 use Rattle.process.proofs.LeaveSame.{SamePages, judges_same}
 use Rattle.process.proofs.CutLaws.{whole, one_less}
 
--- ---- a page at va, and then Q, where F is HasEnough for Q
+-- ---- a page at va, and then Q, where F is enough for Q
 
 module _ (root va : ℕ) (aligned : va % 4096 ≡ 0) (Q : Store → Answer → Store → Type 0) (s : Store) where
   abbrev t : Store

@@ -43,7 +43,7 @@ one_text s (Dump root) t u s' s'' (a, p, e, x) (b, q, f, y) =
     (e ∙ ap (λ (z : Answer). tree.listed s root z ++ said z) (one_dump s root a b p q) ∙ sym f, x ∙ sym y)
 one_text s Other t u s' s'' (e, x) (f, y) = (e ∙ sym f, x ∙ sym y)
 
--- of a long line 129 bytes are HasEnough to see that it is none of the commands
+-- of a long line 129 bytes are enough to see that it is none of the commands
 pub kept_enough : (line : List ℕ) → command_of (take 129 line) ≡ command_of line
 kept_enough line = by_cases (dec_le (length line) 129) (λ h. ap command_of (take_all 129 line h))
     (λ n.

@@ -37,7 +37,7 @@ none_denote : {n : ℕ} → n < 10 → denotes 0 [] ≡ n / 10
 unfolding denotes
 none_denote h = omega arith
 
--- with HasEnough steps, n is spelt in digits that denote it
+-- with enough steps, n is spelt in digits that denote it
 abbrev Back : ℕ → List ℕ → Type 0
 Back n xs = (all_digits xs ≡ true) × (denotes 0 xs ≡ n) × (0 < length xs)
 

@@ -97,6 +97,6 @@ module _ {a k f lv : ℕ → ℕ} (w : Tree a k f lv) where
       let g = hangs w u (omega arith) in
       belongs_up k (suc n) t u (λ q. omega (arith, ap lv q)) g ∙ reaches m n t (home (k u)) (omega arith) b (omega (arith, parent w u g)) e
 
-  -- as many as the level of t are HasEnough
+  -- as many as the level of t are enough
   pub under_belongs : (l t u : ℕ) → lv t ≡ l → l ≤ 2 → Under t u → belongs k (suc l) t u ≡ true
   under_belongs l t u e b q = reaches q.steps l t u (omega (arith, q.levels)) (omega arith) q.levels q.is

@@ -94,7 +94,7 @@ module _ {a k f lv : ℕ → ℕ} (w : Tree a k f lv) (T : ℕ) (there : (u : �
   frees zero h t e = lowest t
   frees (suc l) h t e = higher l h (frees l (omega arith)) t e
 
--- of a root of a well_formed store
+-- of a root of a well-formed store
 pub frees_root : (s : Store) → Sized s → WellFormed s → (root : ℕ) → mark s.tmarks root ≡ 1
     → free_tree 2 root s.words s.tmarks ≡ trees (released s root).words (released s root).tmarks (tables_of s root)
 unfolding released

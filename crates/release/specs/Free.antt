@@ -24,7 +24,7 @@ unfoldable pub belongs : (ℕ → ℕ) → ℕ → ℕ → ℕ → Bool
 belongs k zero r t = false
 belongs k (suc n) r t = cond (eqb t r) true (cond (ltb (k t) 2) false (belongs k n r (home (k t))))
 
--- three tables are HasEnough, since a level is 2, 1 or 0
+-- three tables are enough, since a level is 2, 1 or 0
 abbrev pub of_root : Store → ℕ → ℕ → Bool
 of_root s r t = belongs (mark s.tmarks) 3 r t
 

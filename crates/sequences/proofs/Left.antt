@@ -95,7 +95,7 @@ sized_where s h = record {
   bytes = stable (length s.bytes) (4096 * length s.fmarks) (λ n. h (λ z. n z.bytes));
 }
 
--- set_up leaves a sound store wherever it is answered
+-- set-up leaves a sound store wherever it is answered
 pub set_up_sound : (s : Store) (v : ℕ) (s' : Store) → SetUp s (Done v) s' → Sound s'
 set_up_sound s v s' u = subst Sound (sym u.1.1) (fresh_sound s (sized_where s (λ h. u.0 1 (set_up.sizes h))))
 

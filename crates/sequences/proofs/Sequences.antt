@@ -38,7 +38,7 @@ kept s (x ∷ xs) o q =
     let r = kept x.left.store xs o' q.1 in
     ((o', r.0), r.1)
 
--- a set_up that says 0 has been answered
+-- a set-up that says 0 has been answered
 begun : (s : Store) (a : Said) (s' : Store) (r : Answer) → SetUp s r s' → a ≡ answer_said r → a.number ≡ 0 → Sound s'
 unfolding answer_said among
 begun s a s' (Refused n) u e z =

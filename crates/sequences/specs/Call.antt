@@ -2,7 +2,7 @@
 use Rattle.std.specs.Prelude.{Bool, List, ℕ}
 use Rattle.store.specs.Store.{Store}
 
--- set_up, the check and the calls of document 01, in its order; src are the bytes that a call is lent for reading
+-- set-up, the check and the calls of document 01, in its order; src are the bytes that a call is lent for reading
 pub data Call : Type 0 where
   set_up : Call
   check : Call

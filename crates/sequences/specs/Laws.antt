@@ -27,11 +27,11 @@ pub record Sound (s : Store) : Type 0 where
 abbrev pub LeavesSound : Call → Lent → Said → Lent → Type 0
 LeavesSound c l a l' = Sound l'.store
 
--- from a sized well_formed store on every store is sized and well formed
+-- from a sized well-formed store on every store is sized and well formed
 abbrev pub Kept : Type 0
 Kept = (s : Store) (xs : List Step) → Sound s → Sequence s xs → Each LeavesSound s xs × Sound (last s xs)
 
--- whatever the slices held, that is so of every sequence that begins with a set_up which is answered
+-- whatever the slices held, that is so of every sequence that begins with a set-up which is answered
 abbrev pub KeptFromSetUp : Type 0
 KeptFromSetUp =
     (s : Store) (x : Step) (xs : List Step) → x.ask.call ≡ set_up → x.said.number ≡ 0 → Sequence s (x ∷ xs)

@@ -1,4 +1,4 @@
--- In a well_formed store each table, each pool frame and each word has one owner. Assumes nothing.
+-- In a well-formed store each table, each pool frame and each word has one owner. Assumes nothing.
 use mathlib.Core.Path.{◌≡◌, refl, sym, ◌∙◌}
 use mathlib.Core.Logic.{◌⊎◌, inl, inr, ⊎_elim}
 use Prim.Native.Nat.{ℕ, zero, suc, ◌+◌, ◌-◌, ◌/◌, ◌≤◌, ◌<◌}

@@ -1,4 +1,4 @@
--- In a well_formed store the free tables and those reached from the roots add up to T, and the frames to F; and each is free or
+-- In a well-formed store the free tables and those reached from the roots add up to T, and the frames to F; and each is free or
 -- is met once. Assumes nothing.
 use mathlib.Core.Path.{◌≡◌, refl, sym, ap, ◌∙◌}
 use mathlib.Core.Logic.{◌⊎◌, inl, inr}

@@ -26,7 +26,7 @@ module _ (s : Store) where
   pub clear : Sized s → NoReason (SetUpReason s)
   clear z k (sizes h) = h z
 
-  -- the store that set_up leaves is well formed
+  -- the store that set-up leaves is well formed
   pub fresh_well_formed : WellFormed (fresh s)
   fresh_well_formed =
       record {

@@ -24,6 +24,6 @@ unfoldable pub climb : (ℕ → ℕ) → ℕ → ℕ → ℕ
 climb k zero t = 3
 climb k (suc n) t = under (k t) (climb k n (home (k t)))
 
--- three marks are HasEnough, since a level is 2, 1 or 0
+-- three marks are enough, since a level is 2, 1 or 0
 unfoldable pub level : List ℕ → ℕ → ℕ
 level ms t = climb (mark ms) 3 t

@@ -18,7 +18,7 @@ above : (k : ℕ) → k < 10 ^ k
 above zero = omega arith
 above (suc k) = omega (arith, above k, pow-suc 10 k)
 
--- the fewest digits of n, where f are HasEnough
+-- the fewest digits of n, where f are enough
 spelt_digits : (f k n : ℕ) → k ≤ f → IsDigitCount 10 1 n k → last_digits 10 k n ≡ spelt f n
 unfolding spelt
 spelt_digits f zero n l w = absurd (omega (arith, w.0))

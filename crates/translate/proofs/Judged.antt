@@ -1,4 +1,4 @@
--- The manual's steps on the words of a well_formed store: 0, a pointer, a level-0 word. Assumes nothing.
+-- The manual's steps on the words of a well-formed store: 0, a pointer, a level-0 word. Assumes nothing.
 use mathlib.Core.Path.{◌≡◌, refl, sym, ◌∙◌}
 use mathlib.Core.Bool.{Bool, true, false, cond, not, ◌&&◌, ◌||◌, true≢false, false≢true}
 use mathlib.Core.Logic.{◌⊎◌, inl, inr, ⊎_elim, ◌↔◌, by_cases}

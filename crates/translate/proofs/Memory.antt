@@ -1,4 +1,4 @@
--- The manual's walk on the memory of a well_formed store: what it reads at each level. Assumes nothing.
+-- The manual's walk on the memory of a well-formed store: what it reads at each level. Assumes nothing.
 use mathlib.Core.Path.{◌≡◌, sym, ap, ◌∙◌}
 use Prim.Native.Nat.{ℕ, suc, ◌+◌, ◌-◌, ◌*◌, ◌/◌, ◌%◌, ◌^◌, ◌≤◌, ◌<◌}
 use native.Mathlib.Omega.{arith}

@@ -1,4 +1,4 @@
--- The manual's translation from a root of a well_formed store, and ours: they agree, save on two kinds of level-0 words.
+-- The manual's translation from a root of a well-formed store, and ours: they agree, save on two kinds of level-0 words.
 -- Assumes nothing.
 use mathlib.Core.Path.{◌≡◌, refl, sym, ap, ◌∙◌}
 use mathlib.Core.Bool.{Bool, true, false, cond, ◌&&◌}

@@ -160,7 +160,7 @@ module _ (s₀ : Store) (r p n : ℕ) (freeing : Bool) where
         subst (λ (x : Store). Leaving s₀ r p n freeing x (i + suc k)) (by_run k s r (p + i) freeing (ready (suc k) h) l ∙ ap (λ (x : ℕ). leave_run s x (suc k) freeing) (sym e) ∙ sym q)
         (onward (suc k) s i g h)
 
--- what the judge showed is HasEnough
+-- what the judge showed is enough
 pub leavable : (s : Store) (r p n : ℕ) (freeing : Bool) → CanLeave s r p n freeing → Leavable n s r p freeing
 leavable s r p n freeing c =
     let a = c.asked.at_root in

@@ -1,4 +1,4 @@
--- The check: refused only with 1, and otherwise yes exactly for a well_formed store. It changes nothing.
+-- The check: refused only with 1, and otherwise yes exactly for a well-formed store. It changes nothing.
 use Rattle.std.specs.Prelude.{◌≡◌, ◌⊎◌, ℕ}
 use Rattle.store.specs.Store.{Store, Sized}
 use Rattle.store.specs.WellFormed.{WellFormed}
