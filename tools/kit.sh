@@ -34,8 +34,10 @@ find_kit() {
 
 # Prints a sum of the kit and of all that a proof reads here.
 sum_of_sources() {
-    (cd "$root" && { cat "$home/KIT-ID" crates.txt && find crates -path 'crates/*/out' -prune -o -type f -print |
-        LC_ALL=C sort | tr '\n' '\0' | xargs -0 sha256sum; } | sha256sum)
+    (cd "$root" && {
+        cat "$home/KIT-ID" crates.txt
+        find crates -path 'crates/*/out' -prune -o -type f -print | LC_ALL=C sort | tr '\n' '\0' | xargs -0 sha256sum
+    } | sha256sum)
 }
 
 # Prints a sum of that and of what rt made: the libraries, whose `format` has the sum of their files, and the programs.
@@ -47,12 +49,17 @@ sum_of_all() {
     } | LC_ALL=C sort | tr '\n' '\0' | xargs -0 sha256sum)
 }
 
-# Notes that rt ci has just proved all that stands here. Where a checkout had work of other commands of rt, rt ci has put that
-# back in the place of its own, and nothing is noted.
-note_proved() {
-    find_kit
+# Prints a sum of what rt ci is about to prove, where it will find nothing that rt made before: that it would put back at its end,
+# in the place of what it makes.
+sum_if_fresh() {
+    for made in "$root"/crates/*/out "$root/.git/rt-aside"; do [ ! -e "$made" ] || return 0; done
+    sum_of_sources
+}
+
+# Notes that rt ci has proved all that stands here, where it began with this sum.
+note_proved() { # SUM
+    [ "$1" = "$(sum_of_sources)" ] || return 0
     mkdir -p "$target"
-    for kept in "$root"/crates/*/out/rlib/stamp; do [ ! -f "$kept" ] || return 0; done
     sum_of_all >"$target/proved"
 }
 
