@@ -38,11 +38,13 @@ sum_of_sources() {
         LC_ALL=C sort | tr '\n' '\0' | xargs -0 sha256sum; } | sha256sum)
 }
 
-# Prints a sum of that, of the libraries that stand in crates/*/out, whose `format` has the sum of their files, and of the programs.
+# Prints a sum of that and of what rt made: the libraries, whose `format` has the sum of their files, and the programs.
 sum_of_all() {
     sum_of_sources
-    (cd "$root" && find crates/*/out -maxdepth 3 -type f \( -path '*/rlib/*/format' -o -path '*/out/*' ! -path '*/out/*/*' \) -print |
-        LC_ALL=C sort | tr '\n' '\0' | xargs -0 sha256sum)
+    (cd "$root" && {
+        find crates -mindepth 3 -maxdepth 3 -type f -path '*/out/*'
+        find crates -mindepth 5 -maxdepth 5 -type f -path '*/out/rlib/*/format'
+    } | LC_ALL=C sort | tr '\n' '\0' | xargs -0 sha256sum)
 }
 
 # Notes that rt ci has just proved all that stands here. Where a checkout had work of other commands of rt, rt ci has put that
