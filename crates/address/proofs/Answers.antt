@@ -1,11 +1,15 @@
 -- Which case of a definition by tests a fact picks, and what a caller learns of an answer that it took apart. Assumes nothing.
 use mathlib.Core.Path.{◌≡◌, ap}
+use mathlib.Core.Path.{◌∙◌}
 use Prim.Native.Nat.{ℕ, ◌-◌, ◌^◌, ◌<◌, ◌≤◌}
 use native.Mathlib.Omega.{arith}
 use lib.ListN.{get_or, length}
 use borrow.Author.Tests.{lt-ltb, le-ltb, le-leb, lt-leb}
+use Rattle.std.specs.Prelude.{Option, Some, None}
+use Rattle.std.specs.Option.{SomeIff, ok_or}
+use Rattle.refusal.specs.declared.Refusal.TheVariants.{TooHigh}
 use Rattle.address.specs.Page.{index}
-use Rattle.address.specs.Answer.{Said, answered, refused, within64, at_least0, index_at}
+use Rattle.address.specs.Answer.{Said, answered, refused, said, within64, at_least0, index_at}
 
 pub held : {v : ℕ} → v < 2 ^ 64 → answered v ≡ within64 v
 unfolding within64
@@ -36,3 +40,14 @@ value e = ap (λ (s : Said). get_or s.values 0 0) e
 
 pub clash : {n v : ℕ} → refused n ≡ answered v → ⊥
 clash e = let z : ◌≡◌ {A = ℕ} 0 1 = ap (λ (s : Said). length s.values) e in omega arith
+
+-- a checked sum, and a checked difference
+pub summed : (v : ℕ) (o : Option ℕ) → SomeIff o (v < 2 ^ 64) v → said (λ n. n) (ok_or o TooHigh) ≡ within64 v
+unfolding said
+summed v None h = outside (omega (arith, h))
+summed v (Some x) h = ap answered h.1 ∙ held h.0
+
+pub lessened : (a b : ℕ) (o : Option ℕ) → SomeIff o (b ≤ a) (a - b) → said (λ n. n) (ok_or o TooHigh) ≡ at_least0 a b
+unfolding said
+lessened a b None h = below (omega (arith, h))
+lessened a b (Some x) h = ap answered h.1 ∙ reached h.0

@@ -3,28 +3,23 @@ ghost use Rattle.std.specs.Prelude.{◌≡◌, ◌+◌};
 ghost use Rattle.address.specs.Page.{down, up};
 ghost use Rattle.address.specs.Answer.{within64, at_least0, number_said};
 
-use super::{NumberAnswer, OUTSIDE, PGSIZE};
+use super::PGSIZE;
+use refusal::Refusal;
 
 const OFFSET: u64 = PGSIZE - 1;
 
-const LAST: u64 = 0xFFFF_FFFF_FFFF_FFFF;
+const LAST: u64 = u64::MAX;
 
-pub fn sum(a: u64, b: u64) -> NumberAnswer
+pub fn sum(a: u64, b: u64) -> Result<u64, Refusal>
     ensures { number_said result ≡ within64 (a + b) }
 {
-    if b > LAST - a {
-        return NumberAnswer::Refused(OUTSIDE);
-    }
-    NumberAnswer::Is(a + b)
+    a.checked_add(b).ok_or(Refusal::TooHigh)
 }
 
-pub fn difference(a: u64, b: u64) -> NumberAnswer
+pub fn difference(a: u64, b: u64) -> Result<u64, Refusal>
     ensures { number_said result ≡ at_least0 a b }
 {
-    if b > a {
-        return NumberAnswer::Refused(OUTSIDE);
-    }
-    NumberAnswer::Is(a - b)
+    a.checked_sub(b).ok_or(Refusal::TooHigh)
 }
 
 pub fn round_down(a: u64) -> u64
@@ -33,11 +28,11 @@ pub fn round_down(a: u64) -> u64
     a & !OFFSET
 }
 
-pub fn round_up(a: u64) -> NumberAnswer
+pub fn round_up(a: u64) -> Result<u64, Refusal>
     ensures { number_said result ≡ within64 (up a) }
 {
     if a > LAST - OFFSET {
-        return NumberAnswer::Refused(OUTSIDE);
+        return Err(Refusal::TooHigh);
     }
-    NumberAnswer::Is((a + OFFSET) & !OFFSET)
+    Ok((a + OFFSET) & !OFFSET)
 }

@@ -1,0 +1,2 @@
+-- What every contract that speaks of a refusal cites.
+pub mod Number
