@@ -1,15 +1,14 @@
 -- The entries that are built: field by field, in closed form, and what is refused.
-use Rattle.std.specs.Prelude.{◌≡◌, ℕ, ◌+◌, ◌*◌, ◌/◌, ◌^◌, ◌<◌, ltb, leb}
+use Rattle.std.specs.Prelude.{◌≡◌, ℕ, ◌+◌, ◌*◌, ◌/◌, ◌^◌, ◌<◌, ltb, leb, Result}
+use Rattle.refusal.specs.declared.Refusal.{Refusal}
 use Rattle.address.specs.Field.{bit}
-use Rattle.address.specs.Answer.{Said, answered, refused, pick}
+use Rattle.address.specs.Answer.{Said, answered, refused, said, pick}
 use Rattle.page_table_entry.specs.Layout.{bit_v, flags, frame_number, above_frame}
 use Rattle.page_table_entry.specs.Change.{with_bit}
-use Rattle.page_table_entry.specs.declared.EntryAnswer.{EntryAnswer}
-use Rattle.page_table_entry.specs.declared.EntryAnswer.TheVariants as answer
+use Rattle.page_table_entry.specs.declared.PageTableEntry.{PageTableEntry}
 
-unfoldable pub entry_said : EntryAnswer → Said
-entry_said (answer.Built e) = answered e.0
-entry_said (answer.Refused n) = refused n
+abbrev pub entry_said : Result PageTableEntry Refusal → Said
+entry_said r = said (λ e. e.0) r
 
 -- the frame number shifted left by 10
 abbrev pub name_of : ℕ → ℕ

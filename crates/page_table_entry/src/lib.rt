@@ -8,6 +8,7 @@ ghost use Rattle.page_table_entry.specs.Change.{WithBit};
 ghost use Rattle.page_table_entry.specs.Built.{Written, Named, entry_said};
 
 use address::PhysicalAddress;
+use refusal::Refusal;
 
 const PTE_V: u64 = 1 << 0;
 
@@ -27,12 +28,6 @@ const PAST_FRAMES: u64 = 1 << 56;
 
 #[derive(Clone, Copy)]
 pub struct PageTableEntry(pub u64);
-
-#[derive(Drop)]
-pub enum EntryAnswer {
-    Built(PageTableEntry),
-    Refused(u64),
-}
 
 impl PageTableEntry {
     pub fn new(addr: u64) -> Self
@@ -109,13 +104,13 @@ impl PageTableEntry {
     }
 
     // The entry that names the frame of pa and has no flag; or 9.
-    pub fn as_pte(pa: PhysicalAddress) -> EntryAnswer
+    pub fn as_pte(pa: PhysicalAddress) -> Result<Self, Refusal>
         ensures { Named pa.0 (entry_said result) }
     {
         if pa.0 >= PAST_FRAMES {
-            return EntryAnswer::Refused(9);
+            return Err(Refusal::FrameTooHigh);
         }
-        EntryAnswer::Built(Self((pa.0 >> 12) << 10))
+        Ok(Self((pa.0 >> 12) << 10))
     }
 
     pub fn as_flags(self) -> u64
@@ -131,15 +126,15 @@ impl PageTableEntry {
     }
 
     // The entry that names the frame of pa, with the permissions and V; or 8, or 9.
-    pub fn write_perm(pa: PhysicalAddress, perm: u64) -> EntryAnswer
+    pub fn write_perm(pa: PhysicalAddress, perm: u64) -> Result<Self, Refusal>
         ensures { Written pa.0 perm (entry_said result) }
     {
         if perm > FLAGS {
-            return EntryAnswer::Refused(8);
+            return Err(Refusal::Permissions);
         }
         if pa.0 >= PAST_FRAMES {
-            return EntryAnswer::Refused(9);
+            return Err(Refusal::FrameTooHigh);
         }
-        EntryAnswer::Built(Self(((pa.0 >> 12) << 10) | (perm | PTE_V)))
+        Ok(Self(((pa.0 >> 12) << 10) | (perm | PTE_V)))
     }
 }

@@ -6,7 +6,8 @@ ghost use Rattle.address.specs.Page.{down, up};
 ghost use Rattle.address.specs.Answer.{within64, number_said};
 ghost use Rattle.rounding.specs.Range.{Covers};
 
-use address::{NumberAnswer, PGSIZE, VirtualAddress};
+use address::{PGSIZE, VirtualAddress};
+use refusal::Refusal;
 
 const OFFSET: u64 = PGSIZE - 1;
 
@@ -18,7 +19,7 @@ pub struct PageRange {
     pub end: u64,
 }
 
-pub fn page_round_up(addr: u64) -> NumberAnswer
+pub fn page_round_up(addr: u64) -> Result<u64, Refusal>
     ensures { number_said result ≡ within64 (up addr) }
 {
     address::round_up(addr)

@@ -8,7 +8,8 @@ use Rattle.store.specs.Store.{Store, Sized}
 use Rattle.store.specs.WellFormed.{WellFormed}
 use Rattle.store.specs.Outcome.{Smallest, NoReason}
 use Rattle.store.specs.SetUp.{SetUpReason, sizes, fresh, SetUpDone, SetUp}
-use Rattle.store.specs.declared.Answer.{Answer}
+use Rattle.std.specs.Prelude.{Result}
+use Rattle.refusal.specs.declared.Refusal.{Refusal}
 use Rattle.store.proofs.Outcomes.{one_outcome}
 
 zero_at : (n i : ℕ) → ◌≡◌ {A = ℕ} (get_or (replicate n 0) i 0) 0
@@ -38,5 +39,5 @@ module _ (s : Store) where
         w5 = λ f l. inl (zero_at (length s.fmarks) f);
       }
 
-  pub one_set_up : (a a' : Answer) (t t' : Store) → SetUp s a t → SetUp s a' t' → (a ≡ a') × (t ≡ t')
+  pub one_set_up : (a a' : Result ℕ Refusal) (t t' : Store) → SetUp s a t → SetUp s a' t' → (a ≡ a') × (t ≡ t')
   one_set_up = one_outcome (SetUpReason s) (SetUpDone s) (λ v v' t t' p q. (p.0 ∙ sym q.0, p.1 ∙ sym q.1)) s

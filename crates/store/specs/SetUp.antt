@@ -1,8 +1,8 @@
 -- Set-up: refused only with 1, and otherwise zeros in all four slices.
-use Rattle.std.specs.Prelude.{◌≡◌, ℕ, length, replicate}
+use Rattle.std.specs.Prelude.{◌≡◌, ℕ, length, replicate, Result}
+use Rattle.refusal.specs.declared.Refusal.{Refusal}
 use Rattle.store.specs.Store.{Store, Sized}
 use Rattle.store.specs.Outcome.{Outcome}
-use Rattle.store.specs.declared.Answer.{Answer}
 
 pub data SetUpReason (s : Store) : ℕ → Type 0 where
   sizes : (Sized s → ⊥) → SetUpReason s 1
@@ -21,5 +21,5 @@ fresh s =
 abbrev pub SetUpDone : Store → ℕ → Store → Type 0
 SetUpDone s v s' = (v ≡ 0) × (s' ≡ fresh s)
 
-abbrev pub SetUp : Store → Answer → Store → Type 0
+abbrev pub SetUp : Store → Result ℕ Refusal → Store → Type 0
 SetUp s r s' = Outcome (SetUpReason s) (SetUpDone s) s r s'

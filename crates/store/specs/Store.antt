@@ -1,5 +1,6 @@
 -- The store: four lent slices, their sizes, and the numbers of words, tables and frames.
 use Rattle.std.specs.Prelude.{◌≡◌, List, ℕ, ◌+◌, ◌*◌, ◌/◌, ◌≤◌, length, get_or}
+use Rattle.store.specs.declared.Store.{Store as Lent}
 
 -- table words, table marks, frame bytes, frame marks
 pub record Store : Type 0 where
@@ -10,6 +11,10 @@ pub record Store : Type 0 where
 
 abbrev pub store_of : List ℕ → List ℕ → List ℕ → List ℕ → Store
 store_of ws ms bs fs = record { words = ws; tmarks = ms; bytes = bs; fmarks = fs }
+
+-- what a call sees in the slices that it is lent for reading
+abbrev pub seen : Lent → Store
+seen s = store_of s.words.now s.tmarks.now s.bytes.now s.fmarks.now
 
 -- T is the number of table marks and F that of frame marks; the other two slices have exactly their lengths
 pub record Sized (s : Store) : Type 0 where

@@ -7,59 +7,72 @@ mod fill;
 mod marks;
 
 ghost use Rattle.store.specs.Says.{Says};
-ghost use Rattle.store.specs.Store.{store_of, Sized};
+ghost use Rattle.store.specs.Store.{store_of, seen, Sized};
 ghost use Rattle.store.specs.SetUp.{SetUp};
 
 pub use count::{count_free, enough_free};
 pub use fill::{copy_bytes, zero_bytes, zero_words};
 pub use marks::{level_of, lowest_free, lowest_from, mark_at, word_at};
+use refusal::Refusal;
 
-// What a call answers: the value that document 01 names, or the number of a refusal.
-#[derive(Drop)]
-pub enum Answer {
-    Done(u64),
-    Refused(u64),
+// The four slices as a call reads them.
+#[derive(Clone, Copy)]
+pub struct Store<'a> {
+    pub words: &'a [u64],
+    pub tmarks: &'a [u32],
+    pub bytes: &'a [u8],
+    pub fmarks: &'a [u32],
 }
 
-// Whether T is 1 to 512, F is 1 to 4,096, and the other two slices have exactly their lengths.
-pub fn sized(words: &[u64], tmarks: &[u32], bytes: &[u8], fmarks: &[u32]) -> bool
-    ensures { Says result (Sized (store_of words.now tmarks.now bytes.now fmarks.now)) }
-{
-    let t = tmarks.len();
-    let f = fmarks.len();
-    if t < 1 {
-        return false;
+impl Store<'_> {
+    // Whether T is 1 to 512, F is 1 to 4,096, and the other two slices have exactly their lengths.
+    pub fn sized(&self) -> bool
+        ensures { Says result (Sized (seen self.now)) }
+    {
+        let t = self.tmarks.len();
+        let f = self.fmarks.len();
+        if t < 1 {
+            return false;
+        }
+        if 512 < t {
+            return false;
+        }
+        if f < 1 {
+            return false;
+        }
+        if 4096 < f {
+            return false;
+        }
+        if self.words.len() != 512 * t {
+            return false;
+        }
+        self.bytes.len() == 4096 * f
     }
-    if 512 < t {
-        return false;
-    }
-    if f < 1 {
-        return false;
-    }
-    if 4096 < f {
-        return false;
-    }
-    if words.len() != 512 * t {
-        return false;
-    }
-    if bytes.len() != 4096 * f {
-        return false;
-    }
-    true
 }
 
-// Zeros to all four slices; refused only with 1.
-pub fn set_up(words: &mut [u64], tmarks: &mut [u32], bytes: &mut [u8], fmarks: &mut [u32]) -> Answer
+// Zeros to all four slices; refused only for their sizes.
+pub fn set_up(
+    words: &mut [u64],
+    tmarks: &mut [u32],
+    bytes: &mut [u8],
+    fmarks: &mut [u32],
+) -> Result<u64, Refusal>
     ensures { SetUp
         (store_of words.old tmarks.old bytes.old fmarks.old) result
         (store_of words.new tmarks.new bytes.new fmarks.new) }
 {
-    if !sized(words, tmarks, bytes, fmarks) {
-        return Answer::Refused(1);
+    let store = Store {
+        words,
+        tmarks,
+        bytes,
+        fmarks,
+    };
+    if !store.sized() {
+        return Err(Refusal::Sizes);
     }
     fill::zero_words(words);
     fill::zero_marks(tmarks);
     fill::zero_bytes(bytes);
     fill::zero_marks(fmarks);
-    Answer::Done(0)
+    Ok(0)
 }
