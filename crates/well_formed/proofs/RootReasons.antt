@@ -1,16 +1,18 @@
 -- The reasons of a named root in order, and what each way out of its judge says. Assumes nothing.
-use mathlib.Core.Path.{◌≡◌, refl}
+use mathlib.Core.Path.{◌≡◌}
 use mathlib.Core.Logic.{◌⊎◌, ⊎_elim}
 use Prim.Native.Nat.{ℕ, suc, ◌≤◌, ◌<◌}
 use native.Mathlib.Nat.{le_refl}
 use native.Mathlib.Omega.{arith}
+use Rattle.std.specs.Prelude.{Err}
+use Rattle.refusal.specs.declared.Refusal.{Refusal}
+use Rattle.refusal.specs.Number.{number_of}
 use Rattle.store.specs.Store.{Store, Sized, mark}
 use Rattle.store.specs.WellFormed.{WellFormed}
-use Rattle.store.specs.Outcome.{Smallest, NoReason, Judges}
-use Rattle.store.proofs.Outcomes.{judges_no, judges_ok}
+use Rattle.store.specs.Outcome.{Smallest, NoReason}
 use Rattle.well_formed.specs.Check.{Judged}
 use Rattle.well_formed.specs.Root.{RootReason, sizes, unformed, no_root, RootReady}
-use Rattle.well_formed.proofs.Verdict.{judged_no, judged_ok}
+use Rattle.well_formed.proofs.Verdict.{judged_no}
 
 -- their numbers
 pub root_upto : {s : Store} {root k : ℕ} → RootReason s root k → k ≤ 3
@@ -41,15 +43,13 @@ module _ (s : Store) (root : ℕ) where
     least = λ k l a. ⊎_elim (m.least k l) (λ b. omega (arith, root_upto m.applies)) (split k a);
   }
 
-  pub not_judged : (n : ℕ) → Judged s n → (n ≡ 0 → ⊥) → Judges R F n
-  not_judged n q h =
-      judges_no R F n h
-      (judged_no s R (λ h. record { applies = sizes h; least = least 1 (λ l. absurd (omega arith)) (λ l. absurd (omega arith)) (λ l. absurd (omega arith)) })
-      (λ z h. record { applies = unformed h; least = least 2 (λ l. z) (λ l. absurd (omega arith)) (λ l. absurd (omega arith)) }) n q h)
+  pub not_judged : (r : Refusal) → Judged s (Err r) → Smallest R (number_of r)
+  not_judged = judged_no s R (λ h. record { applies = sizes h; least = least 1 (λ l. absurd (omega arith)) (λ l. absurd (omega arith)) (λ l. absurd (omega arith)) })
+      (λ z h. record { applies = unformed h; least = least 2 (λ l. z) (λ l. absurd (omega arith)) (λ l. absurd (omega arith)) })
 
-  module _ (n : ℕ) (q : Judged s n) (e : n ≡ 0) where
-    pub no_3 : (mark s.tmarks root ≡ 1 → ⊥) → Judges R F 3
-    no_3 h = let g = judged_ok s n q e in judges_no R F 3 (omega arith) (record { applies = no_root h; least = least 3 (λ l. g.0) (λ l. g.1) (λ l. absurd (omega arith)) })
+  module _ (g : Sized s × WellFormed s) where
+    pub no_3 : (mark s.tmarks root ≡ 1 → ⊥) → Smallest R 3
+    no_3 h = record { applies = no_root h; least = least 3 (λ l. g.0) (λ l. g.1) (λ l. absurd (omega arith)) }
 
-    pub named : mark s.tmarks root ≡ 1 → Judges R F 0
-    named r = let g = judged_ok s n q e in judges_ok R F 0 refl (record { sized = g.0; formed = g.1; is_root = r })
+    pub named : mark s.tmarks root ≡ 1 → F
+    named r = record { sized = g.0; formed = g.1; is_root = r }

@@ -7,13 +7,15 @@ use native.Mathlib.Nat.{zero-add, eq-zero-or-pos}
 use native.Mathlib.Decide.{ℕ_discrete, dec_lt}
 use native.Mathlib.Omega.{arith}
 use lib.ListN.{length}
+use Rattle.std.specs.Prelude.{Result, Err}
+use Rattle.refusal.specs.declared.Refusal.{Refusal}
+use Rattle.refusal.specs.Number.{number_of}
 use Rattle.store.specs.Sum.{sum}
 use Rattle.store.specs.Count.{free}
 use Rattle.store.specs.Store.{Store, Sized, word, mark, frame_no}
 use Rattle.store.specs.Level.{level}
 use Rattle.store.specs.WellFormed.{Outside, Held, Leaf, WellFormed}
 use Rattle.store.specs.Outcome.{Smallest, NoReason}
-use Rattle.store.specs.declared.Answer.{Answer}
 use Rattle.store.proofs.Sums.{same_yes, same_one, at_most}
 use Rattle.store.proofs.Taken.{taken, free_taken, taken_some}
 use Rattle.store.proofs.Outcomes.{one_outcome}
@@ -111,18 +113,11 @@ module _ (s : Store) where
   one_value v v' (inr p) (inl q) = absurd (p.1 q.1)
   one_value v v' (inr p) (inr q) = p.0 ∙ sym q.0
 
-  pub one_check : (a a' : Answer) → Check s a → Check s a' → a ≡ a'
+  pub one_check : (a a' : Result ℕ Refusal) → Check s a → Check s a' → a ≡ a'
   one_check a a' p q =
       (one_outcome (CheckReason s) (CheckDone s) (λ v v' t t' x y. (one_value v v' x.0 y.0, x.1 ∙ sym y.1)) s a a' s s p q).0
 
--- what a call learns from the judge: a reason 1 or 2, or that the store is as it should be
-module _ (s : Store) where
-  pub judged_no : (R : ℕ → Type 0) → ((Sized s → ⊥) → Smallest R 1) → (Sized s → (WellFormed s → ⊥) → Smallest R 2) → (n : ℕ) → Judged s n → (n ≡ 0 → ⊥) → Smallest R n
-  judged_no R one two n (inl p) h = subst⁻¹ (Smallest R) p.0 (one p.1)
-  judged_no R one two n (inr (inl p)) h = subst⁻¹ (Smallest R) p.0 (two p.1 p.2)
-  judged_no R one two n (inr (inr p)) h = absurd (h p.0)
-
-  pub judged_ok : (n : ℕ) → Judged s n → n ≡ 0 → Sized s × WellFormed s
-  judged_ok n (inl p) e = absurd (omega (arith, p.0))
-  judged_ok n (inr (inl p)) e = absurd (omega (arith, p.0))
-  judged_ok n (inr (inr p)) e = (p.1, p.2)
+-- what a call learns where the judge refuses: a reason 1 or 2
+pub judged_no : (s : Store) (R : ℕ → Type 0) → ((Sized s → ⊥) → Smallest R 1) → (Sized s → (WellFormed s → ⊥) → Smallest R 2) → (r : Refusal) → Judged s (Err r) → Smallest R (number_of r)
+judged_no s R one two r (inl p) = subst⁻¹ (Smallest R) p.0 (one p.1)
+judged_no s R one two r (inr p) = subst⁻¹ (Smallest R) p.0 (two p.1 p.2)

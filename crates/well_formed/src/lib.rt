@@ -12,13 +12,14 @@ mod words;
 
 ghost use Rattle.store.specs.Outcome.{Judges};
 ghost use Rattle.store.specs.Says.{Says};
-ghost use Rattle.store.specs.Store.{store_of, Sized};
+ghost use Rattle.store.specs.Store.{store_of, seen, Sized};
 ghost use Rattle.store.specs.WellFormed.{WellFormed};
 ghost use Rattle.well_formed.specs.Check.{Check, Judged};
 ghost use Rattle.well_formed.specs.Root.{RootReason, RootReady};
 
+use refusal::Refusal;
 pub use scan::zeros;
-use store::Answer;
+use store::Store;
 
 // What a scan of a part of the words finds: whether they are as they should be, and how many name a frame of the held window.
 #[derive(Drop)]
@@ -52,45 +53,39 @@ fn formed(words: &[u64], tmarks: &[u32], bytes: &[u8], fmarks: &[u32]) -> bool
     true
 }
 
-// The number by which a store is refused, 1 or 2, or 0.
-pub fn judge_store(words: &[u64], tmarks: &[u32], bytes: &[u8], fmarks: &[u32]) -> u64
-    ensures { Judged (store_of words.now tmarks.now bytes.now fmarks.now) result }
+// Refuses a store of the wrong sizes, or one that is not well formed.
+pub fn judge_store(store: &Store) -> Result<(), Refusal>
+    ensures { Judged (seen store.now) result }
 {
-    if !store::sized(words, tmarks, bytes, fmarks) {
-        return 1;
+    if !store.sized() {
+        return Err(Refusal::Sizes);
     }
-    if !formed(words, tmarks, bytes, fmarks) {
-        return 2;
+    if !formed(store.words, store.tmarks, store.bytes, store.fmarks) {
+        return Err(Refusal::NotWellFormed);
     }
-    0
+    Ok(())
 }
 
-// The number by which a store or the root named in it is refused, 1, 2 or 3, or 0.
-pub fn judge_root(words: &[u64], tmarks: &[u32], bytes: &[u8], fmarks: &[u32], root: u64) -> u64
-    ensures { Judges
-        (RootReason (store_of words.now tmarks.now bytes.now fmarks.now) root)
-        (RootReady (store_of words.now tmarks.now bytes.now fmarks.now) root)
-        result }
+// Refuses such a store, and a root named in it that is none.
+pub fn judge_root(store: &Store, root: u64) -> Result<(), Refusal>
+    ensures { Judges (RootReason (seen store.now) root) (RootReady (seen store.now) root) result }
 {
-    let no = judge_store(words, tmarks, bytes, fmarks);
-    if no != 0 {
-        return no;
+    judge_store(store)?;
+    if store::mark_at(store.tmarks, root as usize) != 1 {
+        return Err(Refusal::NoRoot);
     }
-    if store::mark_at(tmarks, root as usize) != 1 {
-        return 3;
-    }
-    0
+    Ok(())
 }
 
-// Says 1 for a well-formed store and 0 for any other; refused with 1 where the sizes are wrong.
-pub fn check(words: &[u64], tmarks: &[u32], bytes: &[u8], fmarks: &[u32]) -> Answer
-    ensures { Check (store_of words.now tmarks.now bytes.now fmarks.now) result }
+// Says 1 for a well-formed store and 0 for any other; refused only for its sizes.
+pub fn check(store: &Store) -> Result<u64, Refusal>
+    ensures { Check (seen store.now) result }
 {
-    if !store::sized(words, tmarks, bytes, fmarks) {
-        return Answer::Refused(1);
+    if !store.sized() {
+        return Err(Refusal::Sizes);
     }
-    if !formed(words, tmarks, bytes, fmarks) {
-        return Answer::Done(0);
+    if !formed(store.words, store.tmarks, store.bytes, store.fmarks) {
+        return Ok(0);
     }
-    Answer::Done(1)
+    Ok(1)
 }

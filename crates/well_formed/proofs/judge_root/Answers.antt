@@ -1,13 +1,14 @@
 -- `well_formed::judge_root` meets its contract. Assumes nothing.
 use mathlib.Core.Path.{sym, ◌∙◌}
+use Rattle.std.proofs.lemmas.Result.{err_from_is_err_and}
 use Rattle.well_formed.proofs.RootReasons.{not_judged, no_3, named}
 use Rattle.well_formed.proofs.judge_root.Goals as goal
 
-pub returns-then-no-ne0 : goal.returns-then-no-ne0
-returns-then-no-ne0 c = not_judged _ _ _ c.judge_store-no.ensures c.if-no-ne0.true
+pub returns-in_err-judge_store : goal.returns-in_err-judge_store
+returns-in_err-judge_store c = let p = err_from_is_err_and c.from_residual.result c.from_residual.ensures.1 in rw (p.1, p.2) (not_judged _ _ _ c.in_err-judge_store.ensures)
 
 pub returns-then-mark_at-ne1 : goal.returns-then-mark_at-ne1
-returns-then-mark_at-ne1 c = no_3 _ _ c.judge_store-no.result c.judge_store-no.ensures c.if-no-ne0.false (λ q. c.if-mark_at-ne1.true (c.mark_at.ensures.0 ∙ q))
+returns-then-mark_at-ne1 c = no_3 _ _ c.in_ok-judge_store.ensures (λ q. c.if-mark_at-ne1.true (c.mark_at.ensures.0 ∙ q))
 
 pub returns : goal.returns
-returns c = named _ _ c.judge_store-no.result c.judge_store-no.ensures c.if-no-ne0.false (sym c.mark_at.ensures.0 ∙ c.if-mark_at-ne1.false)
+returns c = named _ _ c.in_ok-judge_store.ensures (sym c.mark_at.ensures.0 ∙ c.if-mark_at-ne1.false)

@@ -11,7 +11,7 @@ pub formed-requires : goal.formed-requires
 formed-requires c = yes c.sized.result c.if-not-sized.false c.sized.ensures
 
 pub returns-then-not-formed : goal.returns-then-not-formed
-returns-then-not-formed c = inr (inl (refl, yes c.sized.result c.if-not-sized.false c.sized.ensures, no c.formed.result c.if-not-formed.true c.formed.ensures))
+returns-then-not-formed c = inr (refl, yes c.sized.result c.if-not-sized.false c.sized.ensures, no c.formed.result c.if-not-formed.true c.formed.ensures)
 
 pub returns : goal.returns
-returns c = inr (inr (refl, yes c.sized.result c.if-not-sized.false c.sized.ensures, yes c.formed.result c.if-not-formed.false c.formed.ensures))
+returns c = (yes c.sized.result c.if-not-sized.false c.sized.ensures, yes c.formed.result c.if-not-formed.false c.formed.ensures)
