@@ -5,14 +5,14 @@ use mathlib.Core.Bool.{true}
 use Prim.Native.Nat.{ℕ, suc, ◌+◌, ◌/◌, ◌%◌, ◌^◌, ◌≤◌, ◌<◌}
 use native.Mathlib.Nat.{le_refl}
 use native.Mathlib.Omega.{arith}
+use Rattle.std.specs.Prelude.{Result, Ok}
+use Rattle.refusal.specs.declared.Refusal.{Refusal}
 use Rattle.address.specs.Field.{bit}
 use Rattle.page_table_entry.specs.Layout.{bit_v, bit_u, frame_of}
 use Rattle.store.specs.Store.{Store, Sized, mark}
 use Rattle.store.specs.WellFormed.{WellFormed}
 use Rattle.store.specs.Walk.{resolve}
 use Rattle.store.specs.Outcome.{Smallest, NoReason}
-use Rattle.store.specs.declared.Answer.{Answer}
-use Rattle.store.specs.declared.Answer.TheVariants.{Done}
 use Rattle.store.proofs.Outcomes.{one_outcome}
 use Rattle.well_formed.specs.Root.{RootReason, RootReady}
 use Rattle.well_formed.proofs.RootReasons.{root_clear, root_first}
@@ -63,19 +63,19 @@ module _ (s : Store) (root va : ℕ) where
       clear p u k = least (suc k) (λ l. v) (λ l. p) (λ l. u) k (le_refl (suc k))
 
   -- two answers to one call are the same
-  pub one_translate : (a a' : Answer) → Translate s root va a → Translate s root va a' → a ≡ a'
+  pub one_translate : (a a' : Result ℕ Refusal) → Translate s root va a → Translate s root va a' → a ≡ a'
   one_translate a a' p q =
       (one_outcome R (TranslateDone s root va) (λ v v' t t' x y. (x.0 ∙ sym y.0, x.1 ∙ sym y.1)) s a a' s s p q).0
 
   -- what the call answers is the frame that the machine goes to: whatever access in user mode it lets through, at that frame's
   -- address and the offset of va
-  pub frame_of_machine : (v : ℕ) → Sized s → WellFormed s → mark s.tmarks root ≡ 1 → va < 2 ^ 38 → Translate s root va (Done v)
+  pub frame_of_machine : (v : ℕ) → Sized s → WellFormed s → mark s.tmarks root ≡ 1 → va < 2 ^ 38 → Translate s root va (Ok v)
       → (other : ℕ → ℕ) (kind : Kind) (pa : ℕ) → translate (memory s other) (satp_of root) va kind ≡ at pa → pa ≡ v + va % 4096
   frame_of_machine v z w r l o other kind pa e = (reached s z w root r other va kind pa l e).1 ∙ omega (arith, o.1.0)
 
   -- and it answers exactly where the machine lets some access through, but for the words that the machine does not use
   pub answers_where : Sized s → WellFormed s → mark s.tmarks root ≡ 1 → va < 2 ^ 38 → usable (resolve s root (va / 4096)) ≡ true → (other : ℕ → ℕ)
-      → ((v : ℕ) × Translate s root va (Done v)) ↔ ((kind : Kind) × (pa : ℕ) × (translate (memory s other) (satp_of root) va kind ≡ at pa))
+      → ((v : ℕ) × Translate s root va (Ok v)) ↔ ((kind : Kind) × (pa : ℕ) × (translate (memory s other) (satp_of root) va kind ≡ at pa))
   answers_where z w r l u other = (
     λ a. (answers_exactly s z w root r other va l).1 (mapped a.1.0, user a.1.0, u),
     λ m. let x = (answers_exactly s z w root r other va l).0 m in (frame_of (resolve s root (va / 4096)), (clear (record { sized = z; formed = w; is_root = r }) l x.0 x.1, (refl, refl))),

@@ -1,11 +1,11 @@
 -- `pgt_translate`: why it is refused, and what it answers. It changes nothing.
-use Rattle.std.specs.Prelude.{◌≡◌, ℕ, ◌/◌, ◌^◌, ◌≤◌}
+use Rattle.std.specs.Prelude.{◌≡◌, ℕ, ◌/◌, ◌^◌, ◌≤◌, Result}
+use Rattle.refusal.specs.declared.Refusal.{Refusal}
 use Rattle.address.specs.Field.{bit}
 use Rattle.page_table_entry.specs.Layout.{bit_u, frame_of}
 use Rattle.store.specs.Store.{Store}
 use Rattle.store.specs.Walk.{resolve}
 use Rattle.store.specs.Outcome.{Outcome}
-use Rattle.store.specs.declared.Answer.{Answer}
 use Rattle.well_formed.specs.Root.{RootReason}
 use Rattle.walk.specs.Mapped.{Mapped}
 
@@ -20,5 +20,5 @@ pub data TranslateReason (s : Store) (root va : ℕ) : ℕ → Type 0 where
 abbrev pub TranslateDone : Store → ℕ → ℕ → ℕ → Store → Type 0
 TranslateDone s root va v s' = (v ≡ frame_of (resolve s root (va / 4096))) × (s' ≡ s)
 
-abbrev pub Translate : Store → ℕ → ℕ → Answer → Type 0
+abbrev pub Translate : Store → ℕ → ℕ → Result ℕ Refusal → Type 0
 Translate s root va r = Outcome (TranslateReason s root va) (TranslateDone s root va) s r s
