@@ -7,13 +7,13 @@ use native.Mathlib.Decide.{ℕ_discrete, dec_lt}
 use native.Mathlib.Nat.{zero-add}
 use native.Mathlib.Omega.{arith}
 use lib.Bits.{bit_and}
+use Rattle.std.specs.Prelude.{Result, Ok, Err}
+use Rattle.refusal.specs.declared.Refusal.{Refusal}
 use Rattle.page_table_entry.specs.Layout.{bit_v}
 use Rattle.address.specs.Field.{bit}
 use Rattle.store.specs.Store.{Store, frame_no, pool_no}
 use Rattle.store.specs.Walk.{resolve}
-use Rattle.store.specs.Outcome.{NoReason, Judges}
-use Rattle.store.specs.declared.Answer.{Answer}
-use Rattle.store.specs.declared.Answer.TheVariants.{Refused, Done}
+use Rattle.store.specs.Outcome.{NoReason, Smallest}
 use Rattle.store.proofs.Outcomes.{one_outcome}
 use Rattle.store.proofs.Tree.{tree_of}
 use Rattle.well_formed.specs.Root.{RootReady}
@@ -34,17 +34,17 @@ use Rattle.child.proofs.ChildReasons.{clear}
 use Rattle.child.proofs.ChildLoop.{child_may, fillable, in_use}
 
 module _ (s : Store) (parent child size : ℕ) where
-  pub refuse : (k : ℕ) → Judges (ChildReason s parent child size) (ChildReady s parent child size) k → (k ≡ 0 → ⊥) → Child s parent child size (Refused k) s
+  pub refuse : (k : ℕ) → Smallest (ChildReason s parent child size) k → (k ≡ 0 → ⊥) → Child s parent child size (Err k) s
   refuse k j h = (j.reason h, refl)
 
   abbrev after : Store
   after = fresh_pages s child 0 (size / 4096) (page_flags s parent) (page_bytes s parent)
 
-  pub done : ChildReady s parent child size → (s' : Store) → s' ≡ after → Child s parent child size (Done 0) s'
+  pub done : ChildReady s parent child size → (s' : Store) → s' ≡ after → Child s parent child size (Ok 0) s'
   done f s' e = (clear s parent child size f, (refl, e))
 
   -- two answers to one call are the same, and so are the stores
-  pub one_child : (a a' : Answer) (t t' : Store) → Child s parent child size a t → Child s parent child size a' t' → (a ≡ a') × (t ≡ t')
+  pub one_child : (a a' : Result ℕ Refusal) (t t' : Store) → Child s parent child size a t → Child s parent child size a' t' → (a ≡ a') × (t ≡ t')
   one_child = one_outcome (ChildReason s parent child size) (ChildDone s parent child size) (λ v v' t t' x y. (x.0 ∙ sym y.0, x.1 ∙ sym y.1)) s
 
   -- ---- what a success means, where both are roots of a well-formed store
@@ -67,7 +67,7 @@ module _ (s : Store) (parent child size : ℕ) where
           fresh = ready_where s child 0 (size / 4096) (λ k x. none k (fresh x));
         }
 
-    module _ (v : ℕ) (s' : Store) (u : Child s parent child size (Done v) s') where
+    module _ (v : ℕ) (s' : Store) (u : Child s parent child size (Ok v) s') where
       ready : ChildReady s parent child size
       ready = none_ready u.0
 
@@ -126,7 +126,7 @@ module _ (s : Store) (parent child size : ℕ) where
       }
 
       -- a write through the child never reaches the parent
-      pub child_apart : (va : ℕ) (src : List ℕ) (w : ℕ) (s'' : Store) → Out s' child va src (Done w) s'' → (a : ℕ) → a < size → byte_at s'' parent a ≡ byte_at s parent a
+      pub child_apart : (va : ℕ) (src : List ℕ) (w : ℕ) (s'' : Store) → Out s' child va src (Ok w) s'' → (a : ℕ) → a < size → byte_at s'' parent a ≡ byte_at s parent a
       child_apart va src w s'' o a h =
           let g = child_grown in
           let l : a / 4096 < size / 4096 = omega (arith, ready.aligned) in

@@ -6,7 +6,7 @@ use native.Mathlib.Nat.{zero-add}
 use native.Mathlib.Omega.{arith}
 use Rattle.store.specs.Store.{Store}
 use Rattle.store.specs.Walk.{resolve}
-use Rattle.store.specs.Outcome.{Judges}
+use Rattle.store.specs.Outcome.{Smallest}
 use Rattle.store.proofs.Outcomes.{then_judged, JustThen, just_from, just_found, just_passed}
 use Rattle.well_formed.specs.Root.{RootReady}
 use Rattle.walk.specs.Mapped.{Mapped}
@@ -61,7 +61,7 @@ module _ (s : Store) (parent child n : ℕ) where
   -- ---- the counts in a row
 
   module _ (r : RootReady s parent) (b : n ≤ 2 ^ 26) (m : ℕ) (count : PagesAlike s.words parent 0 n 1 1 m) where
-    pub no_11 : m < n → Judges PageReason PagesReady 11
+    pub no_11 : m < n → Smallest PageReason 11
     no_11 h =
         let q = one_lacks (entry_in s.words parent 2) 1 1 0 n m (omega arith) count (omega arith) in
         just_found 11 Unmapped above11 (omega arith) (q.0, q.2, λ x. q.3 (mapped_counted s parent q.0 x))
@@ -70,11 +70,11 @@ module _ (s : Store) (parent child n : ℕ) where
       mapped : (p : ℕ) → p < n → Mapped s parent p
       mapped p l = counted_mapped s parent p (all_have (entry_in s.words parent 2) 1 1 0 n m (omega arith) count (omega arith) p (omega arith) l)
 
-      to14 : (k : ℕ) → Judges From14 PagesReady k → Judges PageReason PagesReady k
+      to14 : (k : ℕ) → Smallest From14 k → Smallest PageReason k
       to14 = just_passed 11 Unmapped (λ (p, l, h). h (mapped p l))
 
       module _ (t : ℕ) (met : PagesAlike s.words child 0 n 1 1 t) where
-        pub no_14 : (t ≡ 0 → ⊥) → Judges PageReason PagesReady 14
+        pub no_14 : (t ≡ 0 → ⊥) → Smallest PageReason 14
         no_14 h =
             let q = one_has (entry_in s.words child 2) 1 1 0 n t (omega arith) met (omega arith) in
             to14 14 (just_found 14 Taken above14 (omega arith) (q.0, q.2, subst (Mapped s child) (sym (zero-add q.0)) (counted_mapped s child q.0 q.3)))
@@ -83,11 +83,11 @@ module _ (s : Store) (parent child n : ℕ) where
           free : (i : ℕ) → i < n → Mapped s child (0 + i) → ⊥
           free i l h = none_has (entry_in s.words child 2) 1 1 0 n t (omega arith) met none (0 + i) (omega arith) (omega arith) (mapped_counted s child (0 + i) h)
 
-          to15 : (k : ℕ) → Judges From15 PagesReady k → Judges PageReason PagesReady k
+          to15 : (k : ℕ) → Smallest From15 k → Smallest PageReason k
           to15 k q = to14 k (just_passed 14 Taken (λ (i, l, h). free i l h) k q)
 
           module _ (j : ℕ) (pools : PagesAlike s.words parent 0 n 0xFFFF_FFFF_F800_0000 0x4000_0000 j) where
-            pub no_15 : j < n → Judges PageReason PagesReady 15
+            pub no_15 : j < n → Smallest PageReason 15
             no_15 h =
                 let q = one_lacks (entry_in s.words parent 2) 0xFFFF_FFFF_F800_0000 0x4000_0000 0 n j (omega arith) pools (omega arith) in
                 to15 15 (just_found 15 Foreign above15 (omega arith) (q.0, q.2, λ x. q.3 (pool_counted s r.sized parent q.0 x)))
@@ -104,10 +104,10 @@ module _ (s : Store) (parent child n : ℕ) where
               later k (no_frames h) = (no_frames h, omega arith)
               later k (no_tables h) = (no_tables h, omega arith)
 
-              pub by_fresh : (k : ℕ) → Judges (FreshReason s child 0 (n - 0)) (FreshReady s child 0 (n - 0)) k → Judges PageReason PagesReady k
+              pub by_fresh : (k : ℕ) → Smallest (FreshReason s child 0 (n - 0)) k → Smallest PageReason k
               by_fresh k q =
                   let e : n - 0 ≡ n = omega arith in
                   to15 k
                   (just_passed 15 Foreign (λ (p, l, h). h (pool p l)) k
                   (then_judged {A = λ x. ⊥} PagesReady (λ x y. inr y.0) later (λ x y. y) (λ f. (mapped, pool, f)) k
-                  (subst (λ (x : ℕ). Judges (FreshReason s child 0 x) (FreshReady s child 0 x) k) e q)))
+                  (subst (λ (x : ℕ). Smallest (FreshReason s child 0 x) k) e q)))

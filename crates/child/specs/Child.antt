@@ -1,10 +1,10 @@
 -- `uvm_copy`: why it is refused, and the store afterwards.
-use Rattle.std.specs.Prelude.{◌≡◌, List, ℕ, ◌*◌, ◌/◌, ◌%◌, ◌^◌, ◌≤◌, ◌<◌}
+use Rattle.std.specs.Prelude.{◌≡◌, List, ℕ, ◌*◌, ◌/◌, ◌%◌, ◌^◌, ◌≤◌, ◌<◌, Result}
+use Rattle.refusal.specs.declared.Refusal.{Refusal}
 use Rattle.page_table_entry.specs.Layout.{flags}
 use Rattle.store.specs.Store.{Store}
 use Rattle.store.specs.Walk.{resolve}
 use Rattle.store.specs.Outcome.{Outcome}
-use Rattle.store.specs.declared.Answer.{Answer}
 use Rattle.well_formed.specs.Root.{RootReason, RootReady}
 use Rattle.walk.specs.Mapped.{Mapped}
 use Rattle.unmap.specs.Leave.{PoolFrame}
@@ -44,5 +44,5 @@ page_bytes s r p = bytes_at s r (4096 * p) 4096
 abbrev pub ChildDone : Store → ℕ → ℕ → ℕ → ℕ → Store → Type 0
 ChildDone s parent child size v s' = (v ≡ 0) × (s' ≡ fresh_pages s child 0 (size / 4096) (page_flags s parent) (page_bytes s parent))
 
-abbrev pub Child : Store → ℕ → ℕ → ℕ → Answer → Store → Type 0
+abbrev pub Child : Store → ℕ → ℕ → ℕ → Result ℕ Refusal → Store → Type 0
 Child s parent child size r s' = Outcome (ChildReason s parent child size) (ChildDone s parent child size) s r s'

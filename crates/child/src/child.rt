@@ -1,56 +1,51 @@
 // A process's pages for its child, after `uvm_copy` of page_table.rs: judged whole, then done.
 ghost use Rattle.std.specs.Prelude.{◌≡◌, ◌+◌, ◌*◌, ◌/◌, ◌≤◌, length, take, drop};
 ghost use Rattle.store.specs.Outcome.{Judges};
-ghost use Rattle.store.specs.Store.{store_of};
+ghost use Rattle.store.specs.Store.{store_of, seen};
 ghost use Rattle.fresh.specs.Fill.{framed};
 ghost use Rattle.fresh.specs.Fresh.{fresh_pages};
 ghost use Rattle.child.specs.Child.{page_flags, page_bytes, ChildReason, ChildReady, Child};
 
 use address::MAXVA;
-use store::Answer;
+use refusal::Refusal;
+use store::Store;
 use unmap::{FRAME_PART, WINDOW};
 
 fn judge_child(
-    words: &[u64],
-    tmarks: &[u32],
-    bytes: &[u8],
-    fmarks: &[u32],
+    store: &Store,
     parent: u64,
     child: u64,
     size: u64,
-) -> u64
+) -> Result<(), Refusal>
     ensures { Judges
-        (ChildReason (store_of words.now tmarks.now bytes.now fmarks.now) parent child size)
-        (ChildReady (store_of words.now tmarks.now bytes.now fmarks.now) parent child size)
+        (ChildReason (seen store.now) parent child size)
+        (ChildReady (seen store.now) parent child size)
         result }
 {
-    let no = well_formed::judge_root(words, tmarks, bytes, fmarks, parent);
-    if no != 0 {
-        return no;
-    }
-    if store::mark_at(tmarks, child as usize) != 1 {
-        return 3;
+    well_formed::judge_root(store, parent)?;
+    if store::mark_at(store.tmarks, child as usize) != 1 {
+        return Err(Refusal::NoRoot);
     }
     if child == parent {
-        return 4;
+        return Err(Refusal::SameRoot);
     }
     if size > MAXVA {
-        return 6;
+        return Err(Refusal::TooHigh);
     }
     if size % 4096 != 0 {
-        return 7;
+        return Err(Refusal::NotAligned);
     }
     let n = (size / 4096) as usize;
-    if walk::count_pages(words, parent as usize, 0, n, 1, 1) < n {
-        return 11;
+    if walk::count_pages(store.words, parent as usize, 0, n, 1, 1) < n {
+        return Err(Refusal::NotMapped);
     }
-    if walk::count_pages(words, child as usize, 0, n, 1, 1) != 0 {
-        return 14;
+    if walk::count_pages(store.words, child as usize, 0, n, 1, 1) != 0 {
+        return Err(Refusal::MappedAlready);
     }
-    if walk::count_pages(words, parent as usize, 0, n, FRAME_PART, WINDOW) < n {
-        return 15;
+    if walk::count_pages(store.words, parent as usize, 0, n, FRAME_PART, WINDOW) < n {
+        return Err(Refusal::NoPoolFrame);
     }
-    fresh::judge_fresh(words, tmarks, bytes, fmarks, child as usize, 0, n)
+    fresh::judge_fresh(store, child as usize, 0, n)
 }
 
 // The bytes of frame g go to frame f, which is another.
@@ -103,15 +98,13 @@ pub fn uvm_copy(
     parent: u64,
     child: u64,
     size: u64,
-) -> Answer
+) -> Result<u64, Refusal>
     ensures { Child
         (store_of words.old tmarks.old bytes.old fmarks.old) parent child size result
         (store_of words.new tmarks.new bytes.new fmarks.new) }
 {
-    let no = judge_child(words, tmarks, bytes, fmarks, parent, child, size);
-    if no != 0 {
-        return Answer::Refused(no);
-    }
+    let store = Store { words, tmarks, bytes, fmarks };
+    judge_child(&store, parent, child, size)?;
     copy_pages(
         words,
         tmarks,
@@ -121,5 +114,5 @@ pub fn uvm_copy(
         child as usize,
         size,
     );
-    Answer::Done(0)
+    Ok(0)
 }

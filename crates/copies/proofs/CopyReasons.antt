@@ -9,8 +9,8 @@ use Rattle.address.specs.Field.{bit}
 use Rattle.page_table_entry.specs.Layout.{bit_u}
 use Rattle.store.specs.Store.{Store}
 use Rattle.store.specs.Walk.{resolve}
-use Rattle.store.specs.Outcome.{NoReason, Judges}
-use Rattle.store.proofs.Outcomes.{judges_no, judges_ok, first_no}
+use Rattle.store.specs.Outcome.{NoReason, Smallest}
+use Rattle.store.proofs.Outcomes.{first_no}
 use Rattle.well_formed.specs.Root.{RootReason, RootReady}
 use Rattle.well_formed.proofs.RootReasons.{root_upto, root_clear}
 use Rattle.walk.specs.Mapped.{Mapped}
@@ -45,7 +45,7 @@ module _ (s : Store) (root va n : ℕ) where
   pub copy_where : RootReady s root → NoReason R → F
   copy_where f clear = record { at_root = f; pages = λ i x. page_where s root (va + i) (λ k h. clear k (page i x h)) }
 
-  pub by_root : (m : ℕ) → (m ≡ 0 → ⊥) → Judges (RootReason s root) (RootReady s root) m → Judges R F m
+  pub by_root : (m : ℕ) → (m ≡ 0 → ⊥) → Smallest (RootReason s root) m → Smallest R m
   by_root m h q = first_no F split (λ k. at_root) (λ j k a b. omega (arith, root_upto a, page_range b.2)) m h (q.reason h)
 
   module _ (f : RootReady s root) where
@@ -66,16 +66,15 @@ module _ (s : Store) (root va n : ℕ) where
     least m b v u g k l (page i x (foreign h)) = omega arith
 
     -- a byte needed lies too high
-    high : (i : ℕ) → Needs n i → 2 ^ 38 ≤ va + i → Judges R F 6
+    high : (i : ℕ) → Needs n i → 2 ^ 38 ≤ va + i → Smallest R 6
     high i x h =
-        judges_no R F 6 (omega arith)
-        (record { applies = page i x (too_high h); least = least 6 (λ q. absurd (omega arith)) (λ q. absurd (omega arith)) (λ q. absurd (omega arith)) (omega arith) })
+        record { applies = page i x (too_high h); least = least 6 (λ q. absurd (omega arith)) (λ q. absurd (omega arith)) (λ q. absurd (omega arith)) (omega arith) }
 
-    pub no_6 : 2 ^ 38 ≤ va → Judges R F 6
+    pub no_6 : 2 ^ 38 ≤ va → Smallest R 6
     no_6 h = high 0 (inr refl) (omega arith)
 
     module _ (b : va < 2 ^ 38) where
-      pub no_6_end : 2 ^ 38 - va < n → Judges R F 6
+      pub no_6_end : 2 ^ 38 - va < n → Smallest R 6
       no_6_end h = high (2 ^ 38 - va) (inl h) (omega arith)
 
       -- the pages needed are those from the first up to e
@@ -114,35 +113,35 @@ module _ (s : Store) (root va n : ℕ) where
           having h i x = let q = page_of_lem i x in all_have g mask v (va / 4096) e c pages.0 count h ((va + i) / 4096) q.0 q.1
 
         module _ (c : ℕ) (valids : PagesAlike s.words root (va / 4096) e 1 1 c) where
-          pub no_11 : c < e - va / 4096 → Judges R F 11
+          pub no_11 : c < e - va / 4096 → Smallest R 11
           no_11 h =
               let q = lacking 1 1 c valids h in
               let a : PageReason s root (va + q.0) 11 = unmapped (λ y. q.2 (mapped_counted s root ((va + q.0) / 4096) y)) in
-              judges_no R F 11 (omega arith) (record { applies = page q.0 q.1 a; least = least 11 (λ _. low) (λ q. absurd (omega arith)) (λ q. absurd (omega arith)) (omega arith) })
+              record { applies = page q.0 q.1 a; least = least 11 (λ _. low) (λ q. absurd (omega arith)) (λ q. absurd (omega arith)) (omega arith) }
 
           module _ (vs : e - va / 4096 ≤ c) (d : ℕ) (users : PagesAlike s.words root (va / 4096) e 16 16 d) where
             mapped : AllMapped
             mapped i x = counted_mapped s root ((va + i) / 4096) (having 1 1 c valids vs i x)
 
-            pub no_12 : d < e - va / 4096 → Judges R F 12
+            pub no_12 : d < e - va / 4096 → Smallest R 12
             no_12 h =
                 let q = lacking 16 16 d users h in
                 let a : PageReason s root (va + q.0) 12 = no_user (λ y. q.2 (user_counted s root ((va + q.0) / 4096) y)) in
-                judges_no R F 12 (omega arith) (record { applies = page q.0 q.1 a; least = least 12 (λ _. low) (λ _. mapped) (λ q. absurd (omega arith)) (omega arith) })
+                record { applies = page q.0 q.1 a; least = least 12 (λ _. low) (λ _. mapped) (λ q. absurd (omega arith)) (omega arith) }
 
             module _ (us : e - va / 4096 ≤ d) (j : ℕ) (pools : PagesAlike s.words root (va / 4096) e 0xFFFF_FFFF_F800_0000 0x4000_0000 j) where
               user : AllUser
               user i x = counted_user s root ((va + i) / 4096) (having 16 16 d users us i x)
 
-              pub no_15 : j < e - va / 4096 → Judges R F 15
+              pub no_15 : j < e - va / 4096 → Smallest R 15
               no_15 h =
                   let q = lacking 0xFFFF_FFFF_F800_0000 0x4000_0000 j pools h in
                   let a : PageReason s root (va + q.0) 15 = foreign (λ y. q.2 (pool_counted s f.sized root ((va + q.0) / 4096) y)) in
-                  judges_no R F 15 (omega arith) (record { applies = page q.0 q.1 a; least = least 15 (λ _. low) (λ _. mapped) (λ _. user) (omega arith) })
+                  record { applies = page q.0 q.1 a; least = least 15 (λ _. low) (λ _. mapped) (λ _. user) (omega arith) }
 
-              pub all_ready : e - va / 4096 ≤ j → Judges R F 0
+              pub all_ready : e - va / 4096 ≤ j → F
               all_ready ps =
-                  judges_ok R F 0 refl (record {
+                  record {
                     at_root = f;
                     pages = λ i x. record {
                       below = low i x;
@@ -152,4 +151,4 @@ module _ (s : Store) (root va n : ℕ) where
                           let w : (va + i) / 4096 < 2 ^ 26 = omega (arith, low i x) in
                           counted_pool s f.sized root ((va + i) / 4096) f.formed f.is_root w (having 0xFFFF_FFFF_F800_0000 0x4000_0000 j pools ps i x);
                     };
-                  })
+                  }

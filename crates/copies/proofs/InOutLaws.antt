@@ -3,10 +3,10 @@ use mathlib.Core.Path.{◌≡◌, refl, sym, ap, ◌∙◌}
 use mathlib.Core.List.{List}
 use Prim.Native.Nat.{ℕ}
 use lib.ListN.{length}
+use Rattle.std.specs.Prelude.{Result, Ok, Err}
+use Rattle.refusal.specs.declared.Refusal.{Refusal}
 use Rattle.store.specs.Store.{Store, store_of}
-use Rattle.store.specs.Outcome.{Judges}
-use Rattle.store.specs.declared.Answer.{Answer}
-use Rattle.store.specs.declared.Answer.TheVariants.{Refused, Done}
+use Rattle.store.specs.Outcome.{Smallest}
 use Rattle.store.proofs.Outcomes.{one_outcome}
 use Rattle.copies.specs.Bytes.{bytes_at, written}
 use Rattle.copies.specs.Needed.{CopyReason, CopyReady}
@@ -23,24 +23,24 @@ module _ (s : Store) (root va : ℕ) (b : List ℕ) where
 
   -- ---- copy_in
 
-  pub in_refused : (k : ℕ) → Judges R F k → (k ≡ 0 → ⊥) → In s root va b (Refused k) b
+  pub in_refused : (k : ℕ) → Smallest R k → (k ≡ 0 → ⊥) → In s root va b (Err k) b
   in_refused k j h = (j.reason h, refl)
 
-  pub in_done : F → (b' : List ℕ) → b' ≡ bytes_at s root va (length b) → In s root va b (Done 0) b'
+  pub in_done : F → (b' : List ℕ) → b' ≡ bytes_at s root va (length b) → In s root va b (Ok 0) b'
   in_done f b' e = (copy_clear s root va (length b) f, (refl, e))
 
   -- two answers to one call are the same, and so are the buffers
-  pub one_in : (a a' : Answer) (t t' : List ℕ) → In s root va b a t → In s root va b a' t' → (a ≡ a') × (t ≡ t')
+  pub one_in : (a a' : Result ℕ Refusal) (t t' : List ℕ) → In s root va b a t → In s root va b a' t' → (a ≡ a') × (t ≡ t')
   one_in = one_outcome R (InDone s root va b) (λ v v' t t' x y. (x.0 ∙ sym y.0, x.1 ∙ sym y.1)) b
 
   -- ---- copy_out
 
-  pub out_refused : (k : ℕ) → Judges R F k → (k ≡ 0 → ⊥) → Out s root va b (Refused k) s
+  pub out_refused : (k : ℕ) → Smallest R k → (k ≡ 0 → ⊥) → Out s root va b (Err k) s
   out_refused k j h = (j.reason h, refl)
 
-  pub out_done : F → (bs' : List ℕ) → bs' ≡ written s root va b s.bytes → Out s root va b (Done 0) (store_of s.words s.tmarks bs' s.fmarks)
+  pub out_done : F → (bs' : List ℕ) → bs' ≡ written s root va b s.bytes → Out s root va b (Ok 0) (store_of s.words s.tmarks bs' s.fmarks)
   out_done f bs' e = (copy_clear s root va (length b) f, (refl, ap (λ (x : List ℕ). store_of s.words s.tmarks x s.fmarks) e))
 
   -- two answers to one call are the same, and so are the stores
-  pub one_out : (a a' : Answer) (t t' : Store) → Out s root va b a t → Out s root va b a' t' → (a ≡ a') × (t ≡ t')
+  pub one_out : (a a' : Result ℕ Refusal) (t t' : Store) → Out s root va b a t → Out s root va b a' t' → (a ≡ a') × (t ≡ t')
   one_out = one_outcome R (OutDone s root va b) (λ v v' t t' x y. (x.0 ∙ sym y.0, x.1 ∙ sym y.1)) s

@@ -6,11 +6,11 @@ use Prim.Native.Nat.{ℕ, ◌+◌, ◌/◌, ◌<◌}
 use native.Mathlib.Omega.{arith}
 use lib.ListN.{length, get_or}
 use lib.Seq.{ext_get_or}
+use Rattle.std.specs.Prelude.{Result, Ok, Err}
+use Rattle.refusal.specs.declared.Refusal.{Refusal}
 use Rattle.store.specs.Store.{Store, store_of}
 use Rattle.store.specs.WellFormed.{WellFormed}
 use Rattle.store.specs.Walk.{entry_at}
-use Rattle.store.specs.declared.Answer.{Answer}
-use Rattle.store.specs.declared.Answer.TheVariants.{Refused, Done}
 use Rattle.well_formed.specs.Root.{RootReady}
 use Rattle.copies.specs.Bytes.{place_at, bytes_at, written}
 use Rattle.copies.specs.Needed.{CopyReady}
@@ -20,7 +20,7 @@ use Rattle.copies.proofs.BytesLaws.{page_room, bytes_length, bytes_get, written_
 use Rattle.copies.proofs.CopyReasons.{copy_clear, copy_where}
 use Rattle.copies.proofs.PlaceLaws.{HasFrame, one_address}
 
-pub in_moved : (s : Store) (root va : ℕ) (dst : List ℕ) (v : ℕ) (dst' : List ℕ) → In s root va dst (Done v) dst' → MovedIn s root va dst dst'
+pub in_moved : (s : Store) (root va : ℕ) (dst : List ℕ) (v : ℕ) (dst' : List ℕ) → In s root va dst (Ok v) dst' → MovedIn s root va dst dst'
 in_moved s root va dst v dst' u =
     let e : dst' ≡ bytes_at s root va (length dst) = u.1.1 in
     record { size = ap length e ∙ bytes_length s root va (length dst); bytes = λ i l. ap (λ (x : List ℕ). get_or x i 0) e ∙ bytes_get s root va (length dst) i l }
@@ -95,7 +95,7 @@ module _ (s : Store) (root va : ℕ) (src : List ℕ) (f : CopyReady s root va (
       }
 
 -- where the root can be used
-module _ (s : Store) (root va : ℕ) (f : RootReady s root) (src : List ℕ) (v : ℕ) (s' : Store) (u : Out s root va src (Done v) s') where
+module _ (s : Store) (root va : ℕ) (f : RootReady s root) (src : List ℕ) (v : ℕ) (s' : Store) (u : Out s root va src (Ok v) s') where
   ready : CopyReady s root va (length src)
   ready = copy_where s root va (length src) f u.0
 
@@ -103,12 +103,12 @@ module _ (s : Store) (root va : ℕ) (f : RootReady s root) (src : List ℕ) (v 
   out_moved = subst (MovedOut s root va src) (sym u.1.1) (moved s root va src ready)
 
   -- a copy of as many bytes back into the kernel is not refused, and gives the source
-  pub round_trip : (dst : List ℕ) → length dst ≡ length src → (a : Answer) (dst' : List ℕ) → In s' root va dst a dst' → (a ≡ Done 0) × (dst' ≡ src)
-  round_trip dst e (Refused k) dst' q =
+  pub round_trip : (dst : List ℕ) → length dst ≡ length src → (a : Result ℕ Refusal) (dst' : List ℕ) → In s' root va dst a dst' → (a ≡ Done 0) × (dst' ≡ src)
+  round_trip dst e (Err k) dst' q =
       let c : CopyReady s' root va (length dst) =
       subst (λ (t : Store). CopyReady t root va (length dst)) (sym u.1.1)
       (copy_kept s (written s root va src s.bytes) root va (length dst) (as_long s root va src ready) (subst (CopyReady s root va) (sym e) ready)) in
       absurd (copy_clear s' root va (length dst) c k q.0.applies)
-  round_trip dst e (Done w) dst' q =
+  round_trip dst e (Ok w) dst' q =
       let m = in_moved s' root va dst w dst' q in
       (ap Done q.1.0, ext_get_or 0 dst' src (m.size ∙ e) (λ i l. m.bytes i (omega (arith, m.size)) ∙ out_moved.bytes i (omega (arith, m.size))))

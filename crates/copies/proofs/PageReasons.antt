@@ -11,8 +11,7 @@ use Rattle.address.specs.Field.{bit}
 use Rattle.page_table_entry.specs.Layout.{bit_v, bit_u}
 use Rattle.store.specs.Store.{Store, frame_no}
 use Rattle.store.specs.Walk.{slot_word, slot, entry_at, resolve}
-use Rattle.store.specs.Outcome.{NoReason, Judges}
-use Rattle.store.proofs.Outcomes.{judges_no, judges_ok}
+use Rattle.store.specs.Outcome.{NoReason, Smallest}
 use Rattle.well_formed.specs.Root.{RootReady}
 use Rattle.walk.specs.Mapped.{Mapped}
 use Rattle.walk.specs.Missing.{entry_in}
@@ -75,47 +74,45 @@ module _ (s : Store) (r a : ℕ) where
   least n b m u k l g (no_user h) = h (u l)
   least n b m u k l g (foreign h) = omega arith
 
-  pub no_6 : 2 ^ 38 ≤ a → Judges R F 6
-  no_6 h = judges_no R F 6 (omega arith) (record { applies = too_high h; least = λ k l. least 6 (λ q. absurd (omega arith)) (λ q. absurd (omega arith)) (λ q. absurd (omega arith)) k l (omega arith) })
+  pub no_6 : 2 ^ 38 ≤ a → Smallest R 6
+  no_6 h = record { applies = too_high h; least = λ k l. least 6 (λ q. absurd (omega arith)) (λ q. absurd (omega arith)) (λ q. absurd (omega arith)) k l (omega arith) }
 
   -- m is the slot of the page, and e is the word in it
   module _ (f : RootReady s r) (b : a < 2 ^ 38) (m e : ℕ) (em : m ≡ slot (slot_word s.words) r 2 (a / 4096)) (ee : e ≡ slot_word s.words m) where
     word : e ≡ entry_in s.words r 2 (a / 4096)
     word = ee ∙ ap (slot_word s.words) em
 
-    pub no_11 : (bit_and e 1 ≡ 1 → ⊥) → Judges R F 11
+    pub no_11 : (bit_and e 1 ≡ 1 → ⊥) → Smallest R 11
     no_11 h =
-        judges_no R F 11 (omega arith)
-        (record { applies = unmapped (λ q. h (ap (λ (x : ℕ). bit_and x 1) word ∙ mapped_counted s r (a / 4096) q)); least = λ k l. least 11 (λ _. b) (λ q. absurd (omega arith)) (λ q. absurd (omega arith)) k l (omega arith) })
+        record { applies = unmapped (λ q. h (ap (λ (x : ℕ). bit_and x 1) word ∙ mapped_counted s r (a / 4096) q)); least = λ k l. least 11 (λ _. b) (λ q. absurd (omega arith)) (λ q. absurd (omega arith)) k l (omega arith) }
 
     module _ (v : bit_and e 1 ≡ 1) where
       valid : Mapped s r (a / 4096)
       valid = counted_mapped s r (a / 4096) (sym (ap (λ (x : ℕ). bit_and x 1) word) ∙ v)
 
-      pub no_12 : (bit_and e 16 ≡ 16 → ⊥) → Judges R F 12
+      pub no_12 : (bit_and e 16 ≡ 16 → ⊥) → Smallest R 12
       no_12 h =
-          judges_no R F 12 (omega arith)
-          (record { applies = no_user (λ q. h (ap (λ (x : ℕ). bit_and x 16) word ∙ user_counted s r (a / 4096) q)); least = λ k l. least 12 (λ _. b) (λ _. valid) (λ q. absurd (omega arith)) k l (omega arith) })
+          record { applies = no_user (λ q. h (ap (λ (x : ℕ). bit_and x 16) word ∙ user_counted s r (a / 4096) q)); least = λ k l. least 12 (λ _. b) (λ _. valid) (λ q. absurd (omega arith)) k l (omega arith) }
 
       module _ (u : bit_and e 16 ≡ 16) where
         user : bit bit_u (resolve s r (a / 4096)) ≡ 1
         user = counted_user s r (a / 4096) (sym (ap (λ (x : ℕ). bit_and x 16) word) ∙ u)
 
-        pub no_15 : (bit_and e 0xFFFF_FFFF_F800_0000 ≡ 0x4000_0000 → ⊥) → Judges R F 15
+        pub no_15 : (bit_and e 0xFFFF_FFFF_F800_0000 ≡ 0x4000_0000 → ⊥) → Smallest R 15
         no_15 h =
-            judges_no R F 15 (omega arith) (record {
+            record {
               applies = foreign (λ q. h (ap (λ (x : ℕ). bit_and x 0xFFFF_FFFF_F800_0000) word ∙ pool_counted s f.sized r (a / 4096) q));
               least = λ k l. least 15 (λ _. b) (λ _. valid) (λ _. user) k l l;
-            })
+            }
 
-        pub all_ready : bit_and e 0xFFFF_FFFF_F800_0000 ≡ 0x4000_0000 → Judges R F 0
+        pub all_ready : bit_and e 0xFFFF_FFFF_F800_0000 ≡ 0x4000_0000 → F
         all_ready h =
-            judges_ok R F 0 refl (record {
+            record {
               below = b;
               mapped = valid;
               user = user;
               pool = counted_pool s f.sized r (a / 4096) f.formed f.is_root (omega arith) (sym (ap (λ (x : ℕ). bit_and x 0xFFFF_FFFF_F800_0000) word) ∙ h);
-            })
+            }
 
 -- the byte at an address whose page can be used has a place
 pub placed : (s : Store) (r a : ℕ) → RootReady s r → PageReady s r a → Placed s.words r a

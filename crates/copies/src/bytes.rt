@@ -1,8 +1,10 @@
 // Bytes of a root by their addresses: read, and written, a page's part at a time.
 ghost use Rattle.std.specs.Prelude.{◌≡◌, length};
-ghost use Rattle.store.specs.Store.{store_of};
+ghost use Rattle.store.specs.Store.{store_of, seen};
 ghost use Rattle.copies.specs.Bytes.{IsPlace, Placed, bytes_at, written};
 ghost use Rattle.copies.specs.Needed.{CopyReady};
+
+use store::Store;
 
 // The number among the frame bytes of the byte at address a.
 pub fn place(words: &[u64], root: usize, a: u64) -> usize
@@ -15,23 +17,20 @@ pub fn place(words: &[u64], root: usize, a: u64) -> usize
 
 // The bytes from va on go to the buffer.
 pub fn read_bytes(
-    words: &[u64],
-    tmarks: &[u32],
-    bytes: &[u8],
-    fmarks: &[u32],
+    store: &Store,
     root: usize,
     va: u64,
     dst: &mut [u8],
 )
-    requires { CopyReady (store_of words.now tmarks.now bytes.now fmarks.now) root va (length dst.old) }
-    ensures { dst.new ≡ bytes_at (store_of words.now tmarks.now bytes.now fmarks.now) root va (length dst.old) }
+    requires { CopyReady (seen store.now) root va (length dst.old) }
+    ensures { dst.new ≡ bytes_at (seen store.now) root va (length dst.old) }
 {
     let mut i = 0;
     while i < dst.len() {
         let a = va + (i as u64);
         let k = walk::lesser(4096 - (a % 4096) as usize, dst.len() - i);
-        let from = place(words, root, a);
-        store::copy_bytes(&mut dst[i..i + k], &bytes[from..from + k]);
+        let from = place(store.words, root, a);
+        store::copy_bytes(&mut dst[i..i + k], &store.bytes[from..from + k]);
         i += k;
     }
 }

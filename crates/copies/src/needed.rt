@@ -1,11 +1,13 @@
 // The judges of the pages that a copy needs: the smallest refusal that applies, or 0. They only read.
 ghost use Rattle.std.specs.Prelude.{◌≡◌, suc, ◌+◌, ◌-◌, ◌/◌, ◌^◌, ◌≤◌, ◌<◌};
 ghost use Rattle.store.specs.Outcome.{Judges};
-ghost use Rattle.store.specs.Store.{store_of};
+ghost use Rattle.store.specs.Store.{seen};
 ghost use Rattle.well_formed.specs.Root.{RootReady};
 ghost use Rattle.copies.specs.Needed.{PageReason, PageReady, CopyReason, CopyReady};
 
 use address::MAXVA;
+use refusal::Refusal;
+use store::Store;
 use unmap::{FRAME_PART, WINDOW};
 
 // The bits V and U of a word.
@@ -15,33 +17,30 @@ const U: u64 = 16;
 
 // 6, 11, 12 or 15, or 0, for the page of address a.
 pub fn judge_page(
-    words: &[u64],
-    tmarks: &[u32],
-    bytes: &[u8],
-    fmarks: &[u32],
+    store: &Store,
     root: usize,
     a: u64,
-) -> u64
-    requires { RootReady (store_of words.now tmarks.now bytes.now fmarks.now) root }
+) -> Result<(), Refusal>
+    requires { RootReady (seen store.now) root }
     ensures { Judges
-        (PageReason (store_of words.now tmarks.now bytes.now fmarks.now) root a)
-        (PageReady (store_of words.now tmarks.now bytes.now fmarks.now) root a)
+        (PageReason (seen store.now) root a)
+        (PageReady (seen store.now) root a)
         result }
 {
     if a >= MAXVA {
-        return 6;
+        return Err(Refusal::TooHigh);
     }
-    let e = walk::slot_word(words, walk::slot_of(words, root, (a / 4096) as usize));
+    let e = walk::slot_word(store.words, walk::slot_of(store.words, root, (a / 4096) as usize));
     if e & V != V {
-        return 11;
+        return Err(Refusal::NotMapped);
     }
     if e & U != U {
-        return 12;
+        return Err(Refusal::NotUser);
     }
     if e & FRAME_PART != WINDOW {
-        return 15;
+        return Err(Refusal::NoPoolFrame);
     }
-    0
+    Ok(())
 }
 
 // The page behind the last one that n bytes from va on need.
@@ -57,40 +56,34 @@ fn pages_end(va: u64, n: u64) -> usize
 
 // The smallest refusal that applies to n bytes from va on, or 0.
 pub fn judge_copy(
-    words: &[u64],
-    tmarks: &[u32],
-    bytes: &[u8],
-    fmarks: &[u32],
+    store: &Store,
     root: u64,
     va: u64,
     n: usize,
-) -> u64
+) -> Result<(), Refusal>
     ensures { Judges
-        (CopyReason (store_of words.now tmarks.now bytes.now fmarks.now) root va n)
-        (CopyReady (store_of words.now tmarks.now bytes.now fmarks.now) root va n)
+        (CopyReason (seen store.now) root va n)
+        (CopyReady (seen store.now) root va n)
         result }
 {
-    let no = well_formed::judge_root(words, tmarks, bytes, fmarks, root);
-    if no != 0 {
-        return no;
-    }
+    well_formed::judge_root(store, root)?;
     if va >= MAXVA {
-        return 6;
+        return Err(Refusal::TooHigh);
     }
     if n as u64 > MAXVA - va {
-        return 6;
+        return Err(Refusal::TooHigh);
     }
     let r = root as usize;
     let first = (va / 4096) as usize;
     let end = pages_end(va, n as u64);
-    if walk::count_pages(words, r, first, end, V, V) < end - first {
-        return 11;
+    if walk::count_pages(store.words, r, first, end, V, V) < end - first {
+        return Err(Refusal::NotMapped);
     }
-    if walk::count_pages(words, r, first, end, U, U) < end - first {
-        return 12;
+    if walk::count_pages(store.words, r, first, end, U, U) < end - first {
+        return Err(Refusal::NotUser);
     }
-    if walk::count_pages(words, r, first, end, FRAME_PART, WINDOW) < end - first {
-        return 15;
+    if walk::count_pages(store.words, r, first, end, FRAME_PART, WINDOW) < end - first {
+        return Err(Refusal::NoPoolFrame);
     }
-    0
+    Ok(())
 }

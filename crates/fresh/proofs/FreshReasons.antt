@@ -4,8 +4,7 @@ use Prim.Native.Nat.{ℕ, ◌+◌, ◌-◌, ◌≤◌, ◌<◌}
 use native.Mathlib.Omega.{arith}
 use Rattle.store.specs.Store.{Store}
 use Rattle.store.specs.Count.{free_tables, free_frames}
-use Rattle.store.specs.Outcome.{Judges}
-use Rattle.store.proofs.Outcomes.{judges_no, judges_ok}
+use Rattle.store.specs.Outcome.{Smallest}
 use Rattle.walk.specs.Mapped.{Mapped}
 use Rattle.walk.specs.Missing.{entry_in, missing_in, missing}
 use Rattle.walk.specs.Ranges.{PagesAlike}
@@ -51,29 +50,29 @@ module _ (s : Store) (r p e : ℕ) (l : p ≤ e) where
   least n m f t k q (no_tables h) = omega (arith, t q)
 
   module _ (c : ℕ) (count : PagesAlike s.words r p e 1 1 c) where
-    pub no_14 : (c ≡ 0 → ⊥) → Judges R F 14
+    pub no_14 : (c ≡ 0 → ⊥) → Smallest R 14
     no_14 h =
         let q = one_has g 1 1 p e c l count (omega arith) in
         let x : q.0 ≡ p + (q.0 - p) = omega (arith, q.1) in
-        judges_no R F 14 (omega arith) (record {
+        record {
           applies = taken (q.0 - p) (omega (arith, q.1, q.2)) (subst (Mapped s r) x (counted_mapped s r q.0 q.3));
           least = least 14 (λ y. absurd (omega arith)) (λ y. absurd (omega arith)) (λ y. absurd (omega arith));
-        })
+        }
 
     module _ (z : c ≡ 0) where
       none : (i : ℕ) → i < e - p → Mapped s r (p + i) → ⊥
       none i x m = none_has g 1 1 p e c l count z (p + i) (omega arith) (omega arith) (mapped_counted s r (p + i) m)
 
-      pub no_16 : (e - p ≤ free_frames s → ⊥) → Judges R F 16
-      no_16 h = judges_no R F 16 (omega arith) (record { applies = no_frames (omega arith); least = least 16 (λ _. none) (λ y. absurd (omega arith)) (λ y. absurd (omega arith)) })
+      pub no_16 : (e - p ≤ free_frames s → ⊥) → Smallest R 16
+      no_16 h = record { applies = no_frames (omega arith); least = least 16 (λ _. none) (λ y. absurd (omega arith)) (λ y. absurd (omega arith)) }
 
       module _ (h : e - p ≤ free_frames s) (m : ℕ) (lacking : m ≡ missing_in s.words r p (e - p)) where
         lacks : m ≡ missing s r p (e - p)
         unfolding missing
         lacks = lacking
 
-        pub no_17 : (m ≤ free_tables s → ⊥) → Judges R F 17
-        no_17 q = judges_no R F 17 (omega arith) (record { applies = no_tables (omega (arith, lacks)); least = least 17 (λ _. none) (λ _. omega arith) (λ y. absurd (omega arith)) })
+        pub no_17 : (m ≤ free_tables s → ⊥) → Smallest R 17
+        no_17 q = record { applies = no_tables (omega (arith, lacks)); least = least 17 (λ _. none) (λ _. omega arith) (λ y. absurd (omega arith)) }
 
-        pub all_ready : m ≤ free_tables s → Judges R F 0
-        all_ready q = judges_ok R F 0 refl (record { unmapped = none; frames = omega arith; tables = omega (arith, lacks) })
+        pub all_ready : m ≤ free_tables s → F
+        all_ready q = record { unmapped = none; frames = omega arith; tables = omega (arith, lacks) }

@@ -2,36 +2,36 @@
 ghost use Rattle.std.specs.Prelude.{◌+◌, ◌-◌, ◌^◌, ◌≤◌, ◌<◌, length};
 ghost use Rattle.store.specs.Count.{lowest};
 ghost use Rattle.store.specs.Outcome.{Judges};
-ghost use Rattle.store.specs.Store.{store_of};
+ghost use Rattle.store.specs.Store.{seen};
 ghost use Rattle.well_formed.specs.Root.{Asked};
 ghost use Rattle.fresh.specs.Fresh.{FreshReason, FreshReady, FrameFits, FrameEntered, FrameTaken};
 
+use refusal::Refusal;
+use store::Store;
+
 // 14, 16 or 17, or 0, for the pages from first up to end.
 pub fn judge_fresh(
-    words: &[u64],
-    tmarks: &[u32],
-    bytes: &[u8],
-    fmarks: &[u32],
+    store: &Store,
     root: usize,
     first: usize,
     end: usize,
-) -> u64
-    requires { Asked (store_of words.now tmarks.now bytes.now fmarks.now) root first (end - first) × (first ≤ end) }
+) -> Result<(), Refusal>
+    requires { Asked (seen store.now) root first (end - first) × (first ≤ end) }
     ensures { Judges
-        (FreshReason (store_of words.now tmarks.now bytes.now fmarks.now) root first (end - first))
-        (FreshReady (store_of words.now tmarks.now bytes.now fmarks.now) root first (end - first))
+        (FreshReason (seen store.now) root first (end - first))
+        (FreshReady (seen store.now) root first (end - first))
         result }
 {
-    if walk::count_pages(words, root, first, end, 1, 1) != 0 {
-        return 14;
+    if walk::count_pages(store.words, root, first, end, 1, 1) != 0 {
+        return Err(Refusal::MappedAlready);
     }
-    if !store::enough_free(fmarks, end - first) {
-        return 16;
+    if !store::enough_free(store.fmarks, end - first) {
+        return Err(Refusal::TooFewFrames);
     }
-    if !store::enough_free(tmarks, walk::missing_tables(words, root, first, end)) {
-        return 17;
+    if !store::enough_free(store.tmarks, walk::missing_tables(store.words, root, first, end)) {
+        return Err(Refusal::TooFewTables);
     }
-    0
+    Ok(())
 }
 
 // Slot m and the lowest free frame get each other, with the flags q. No frame below from is free.

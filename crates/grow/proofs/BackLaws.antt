@@ -10,12 +10,12 @@ use native.Mathlib.Omega.{arith}
 use lib.Dec.{leb}
 use lib.ListN.{get_or}
 use borrow.Author.Tests.{le-leb, lt-leb}
+use Rattle.std.specs.Prelude.{Result, Ok, Err}
+use Rattle.refusal.specs.declared.Refusal.{Refusal}
 use Rattle.store.specs.Store.{Store, mark, frame_no, pool_no}
 use Rattle.store.specs.Count.{free}
 use Rattle.store.specs.Walk.{resolve}
 use Rattle.store.specs.Outcome.{NoReason}
-use Rattle.store.specs.declared.Answer.{Answer}
-use Rattle.store.specs.declared.Answer.TheVariants.{Refused, Done}
 use Rattle.well_formed.specs.Root.{RootReady, Asked}
 use Rattle.unmap.specs.Leave.{PoolFrame}
 use Rattle.unmap.specs.Gone.{pool_pages, Gone}
@@ -44,7 +44,7 @@ answer : (old new : ℕ) → old ≤ new → cond (leb new old) new old ≡ old
 answer old new h =
     by_cases (dec_lt old new) (λ l. rw (lt-leb new old l)) (λ l. rw (le-leb new old (omega arith)) (omega arith))
 
-module _ (s : Store) (root old new : ℕ) (a : Asked s root (pages_to old) (gained old new)) (v : ℕ) (s₁ : Store) (u : Grow s root old new (Done v) s₁) where
+module _ (s : Store) (root old new : ℕ) (a : Asked s root (pages_to old) (gained old new)) (v : ℕ) (s₁ : Store) (u : Grow s root old new (Ok v) s₁) where
   abbrev p : ℕ
   p = pages_to old
 
@@ -114,9 +114,9 @@ module _ (s : Store) (root old new : ℕ) (a : Asked s root (pages_to old) (gain
     }
 
   -- it answers old, and everything is as before
-  pub grown_back : old ≤ new → (r : Answer) (s₂ : Store) → Shrink s₁ root new old r s₂ → (r ≡ Done old) × Back s root (pages_to old) (gained old new) s₂
-  grown_back h (Refused k) s₂ x = absurd (back_taken k x.0.applies)
-  grown_back h (Done w) s₂ x = (
+  pub grown_back : old ≤ new → (r : Result ℕ Refusal) (s₂ : Store) → Shrink s₁ root new old r s₂ → (r ≡ Done old) × Back s root (pages_to old) (gained old new) s₂
+  grown_back h (Err k) s₂ x = absurd (back_taken k x.0.applies)
+  grown_back h (Ok w) s₂ x = (
     ap Done (x.1.0 ∙ answer old new h),
     back s₂ (shrink_gone s₁ root new old w s₂ (record { at_root = at_root₁; pages = a.pages }) x),
   )

@@ -4,8 +4,8 @@ use mathlib.Core.Logic.{◌⊎◌, inl, inr}
 use Prim.Native.Nat.{ℕ, ◌-◌, ◌≤◌, ◌<◌}
 use native.Mathlib.Omega.{arith}
 use Rattle.store.specs.Store.{Store}
-use Rattle.store.specs.Outcome.{NoReason, Judges}
-use Rattle.store.proofs.Outcomes.{judges_ok, first_no, then_judged}
+use Rattle.store.specs.Outcome.{NoReason, Smallest}
+use Rattle.store.proofs.Outcomes.{first_no, then_judged}
 use Rattle.well_formed.specs.Root.{Asked}
 use Rattle.shrink.specs.Sizes.{pages_to, SizeReason, SizeReady}
 use Rattle.fresh.specs.Fresh.{FreshReason, FreshReady}
@@ -24,7 +24,7 @@ module _ (s : Store) (root old new : ℕ) where
   split k (sizes h) = inl h
   split k (pages h) = inr h
 
-  pub by_sizes : (n : ℕ) → (n ≡ 0 → ⊥) → Judges (SizeReason s root old new) (SizeReady s root old new) n → Judges R F n
+  pub by_sizes : (n : ℕ) → Smallest (SizeReason s root old new) n → Smallest R n
   by_sizes n h q = first_no F split (λ k. sizes) (λ j k a b. omega (arith, size_upto a, fresh_range b)) n h (q.reason h)
 
   -- the judge of pages is asked about those from first up to end
@@ -32,13 +32,13 @@ module _ (s : Store) (root old new : ℕ) where
     pub asked : first < end → Asked s root first (end - first) × (first ≤ end)
     asked h = let r = z.at_root in (record { at_root = r; pages = omega (arith, ee, z.new_small) }, omega arith)
 
-    pub by_pages : (n : ℕ) → Judges (FreshReason s root first (end - first)) (FreshReady s root first (end - first)) n → Judges R F n
+    pub by_pages : (n : ℕ) → Smallest (FreshReason s root first (end - first)) n → Smallest R n
     by_pages n q =
         then_judged F split (λ k. pages) (size_clear s root old new z) (λ f. record { sizes = z; pages = f }) n
-        (subst₂ (λ (x y : ℕ). Judges (FreshReason s root x (y - x)) (FreshReady s root x (y - x)) n) ef ee q)
+        (subst₂ (λ (x y : ℕ). Smallest (FreshReason s root x (y - x)) n) ef ee q)
 
-    pub no_pages : end ≤ first → Judges R F 0
-    no_pages h = judges_ok R F 0 refl (record { sizes = z; pages = fresh_none s root (pages_to old) (gained old new) (omega (arith, ef, ee)) })
+    pub no_pages : end ≤ first → F
+    no_pages h = record { sizes = z; pages = fresh_none s root (pages_to old) (gained old new) (omega (arith, ef, ee)) }
 
   -- where the call is ready no reason applies
   pub clear : F → NoReason R

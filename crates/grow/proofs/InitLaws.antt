@@ -7,11 +7,11 @@ use native.Mathlib.Decide.{dec_lt}
 use native.Mathlib.Omega.{arith}
 use lib.ListN.{length, replicate, length-append, length-replicate}
 use borrow.Rule.Slice.PartMut.{put_mid}
+use Rattle.std.specs.Prelude.{Result, Ok, Err}
+use Rattle.refusal.specs.declared.Refusal.{Refusal}
 use Rattle.store.specs.Store.{Store, store_of}
 use Rattle.store.specs.Count.{lowest}
-use Rattle.store.specs.Outcome.{Judges}
-use Rattle.store.specs.declared.Answer.{Answer}
-use Rattle.store.specs.declared.Answer.TheVariants.{Refused, Done}
+use Rattle.store.specs.Outcome.{Smallest}
 use Rattle.store.proofs.Outcomes.{one_outcome}
 use Rattle.enter.proofs.Hang.{lowest_free}
 use Rattle.well_formed.specs.Root.{Asked}
@@ -28,7 +28,7 @@ pub padded_length : (src : List ℕ) → length src < 4096 → length (padded sr
 padded_length src h = omega (arith, length-append src (replicate (4096 - length src) 0), length-replicate {A = ℕ} (4096 - length src) 0)
 
 module _ (s : Store) (root : ℕ) (src : List ℕ) where
-  pub refuse : (k : ℕ) → Judges (InitReason s root src) (InitReady s root src) k → (k ≡ 0 → ⊥) → Init s root src (Refused k) s
+  pub refuse : (k : ℕ) → Smallest (InitReason s root src) k → (k ≡ 0 → ⊥) → Init s root src (Err k) s
   refuse k j h = (j.reason h, refl)
 
   module _ (f : InitReady s root src) where
@@ -43,16 +43,16 @@ module _ (s : Store) (root : ℕ) (src : List ℕ) where
     frame_in g e = omega (arith, (lowest_free s.fmarks (omega (arith, can.frames))).0, can.sized.bytes)
 
     pub done : (g : ℕ) (ws' ms' fs' x : List ℕ) → FrameEntered s.words s.tmarks s.fmarks root 0 31 g ws' ms' fs' → x ≡ padded src
-        → Init s root src (Done 0) (store_of ws' ms' (put_mid (4096 * g) (4096 * g + 4096 - 4096 * g) s.bytes x) fs')
+        → Init s root src (Ok 0) (store_of ws' ms' (put_mid (4096 * g) (4096 * g + 4096 - 4096 * g) s.bytes x) fs')
     done g ws' ms' fs' x en e =
         (clear s root src f, (refl, ap (λ (y : List ℕ). store_of ws' ms' y fs') (put_frame s.bytes g x (padded src) e) ∙ en.store s.bytes (padded src)))
 
   -- two answers to one call are the same, and so are the stores
-  pub one_init : (a a' : Answer) (t t' : Store) → Init s root src a t → Init s root src a' t' → (a ≡ a') × (t ≡ t')
+  pub one_init : (a a' : Result ℕ Refusal) (t t' : Store) → Init s root src a t → Init s root src a' t' → (a ≡ a') × (t ≡ t')
   one_init = one_outcome (InitReason s root src) (InitDone s root src) (λ v v' t t' x y. (x.0 ∙ sym y.0, x.1 ∙ sym y.1)) s
 
   -- what a success means, where page 0 may be asked about: it has a frame that holds the source and then zeros
-  pub init_grown : (v : ℕ) (s' : Store) → Asked s root 0 1 → Init s root src (Done v) s' → Grown s root 0 1 (λ _. 31) (λ _. padded src) s'
+  pub init_grown : (v : ℕ) (s' : Store) → Asked s root 0 1 → Init s root src (Ok v) s' → Grown s root 0 1 (λ _. 31) (λ _. padded src) s'
   unfolding fresh_pages
   init_grown v s' a u =
       let short : length src < 4096 = by_cases (dec_lt (length src) 4096) (λ l. l) (λ l. absurd (u.0 5 (too_long (omega arith)))) in

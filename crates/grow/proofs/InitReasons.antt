@@ -6,7 +6,7 @@ use Prim.Native.Nat.{ℕ, ◌-◌, ◌≤◌, ◌<◌}
 use native.Mathlib.Omega.{arith}
 use lib.ListN.{length}
 use Rattle.store.specs.Store.{Store}
-use Rattle.store.specs.Outcome.{NoReason, Judges}
+use Rattle.store.specs.Outcome.{NoReason, Smallest}
 use Rattle.store.proofs.Outcomes.{Just, first_no, then_judged, just_no}
 use Rattle.well_formed.specs.Root.{RootReason, RootReady, Asked}
 use Rattle.well_formed.proofs.RootReasons.{root_upto, root_clear}
@@ -37,11 +37,11 @@ module _ (s : Store) (root : ℕ) (src : List ℕ) where
   join k (inl (e, h)) = rw e (too_long h)
   join k (inr h) = page h
 
-  pub by_root : (n : ℕ) → (n ≡ 0 → ⊥) → Judges (RootReason s root) (RootReady s root) n → Judges R F n
+  pub by_root : (n : ℕ) → Smallest (RootReason s root) n → Smallest R n
   by_root n h q = first_no F split (λ k. at_root) (λ j k a b. omega (arith, root_upto a, above k b)) n h (q.reason h)
 
   module _ (r : RootReady s root) where
-    pub no_5 : 4096 ≤ length src → Judges R F 5
+    pub no_5 : 4096 ≤ length src → Smallest R 5
     no_5 h =
         then_judged F split join (root_clear s root r) (λ f. f) 5
         (first_no F (λ k x. x) (λ k. inl) (λ j k a b. omega (arith, a.0, fresh_range b)) 5 (omega arith) ((just_no 5 (4096 ≤ length src) F (omega arith) h).reason (omega arith)))
@@ -49,7 +49,7 @@ module _ (s : Store) (root : ℕ) (src : List ℕ) where
     pub asked : Asked s root 0 (1 - 0)
     asked = record { at_root = r; pages = omega arith }
 
-    pub by_page : length src < 4096 → (n : ℕ) → Judges (FreshReason s root 0 1) (FreshReady s root 0 1) n → Judges R F n
+    pub by_page : length src < 4096 → (n : ℕ) → Smallest (FreshReason s root 0 1) n → Smallest R n
     by_page h n q =
         then_judged F split join (root_clear s root r) (λ f. record { at_root = r; short = h; page = f }) n
         (then_judged (FreshReady s root 0 1) (λ k x. x) (λ k. inr) (λ k x. omega (arith, x.1)) (λ f. f) n q)

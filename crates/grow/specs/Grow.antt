@@ -1,8 +1,8 @@
 -- `uvm_alloc`: why it is refused, what it answers, and the store afterwards.
-use Rattle.std.specs.Prelude.{◌≡◌, cond, List, ℕ, ◌-◌, ltb, replicate}
+use Rattle.std.specs.Prelude.{◌≡◌, cond, List, ℕ, ◌-◌, ltb, replicate, Result}
+use Rattle.refusal.specs.declared.Refusal.{Refusal}
 use Rattle.store.specs.Store.{Store}
 use Rattle.store.specs.Outcome.{Outcome}
-use Rattle.store.specs.declared.Answer.{Answer}
 use Rattle.shrink.specs.Sizes.{pages_to, SizeReason, SizeReady}
 use Rattle.fresh.specs.Fresh.{FreshReason, FreshReady, fresh_pages}
 
@@ -29,5 +29,5 @@ abbrev pub GrowDone : Store → ℕ → ℕ → ℕ → ℕ → Store → Type 0
 GrowDone s root old new v s' =
     (v ≡ cond (ltb new old) old new) × (s' ≡ fresh_pages s root (pages_to old) (gained old new) (λ _. 31) (λ _. zeroed))
 
-abbrev pub Grow : Store → ℕ → ℕ → ℕ → Answer → Store → Type 0
+abbrev pub Grow : Store → ℕ → ℕ → ℕ → Result ℕ Refusal → Store → Type 0
 Grow s root old new r s' = Outcome (GrowReason s root old new) (GrowDone s root old new) s r s'

@@ -1,8 +1,8 @@
 -- `uvm_init`: why it is refused, and the store afterwards.
-use Rattle.std.specs.Prelude.{◌≡◌, List, ◌++◌, ℕ, ◌-◌, ◌≤◌, ◌<◌, length, replicate}
+use Rattle.std.specs.Prelude.{◌≡◌, List, ◌++◌, ℕ, ◌-◌, ◌≤◌, ◌<◌, length, replicate, Result}
+use Rattle.refusal.specs.declared.Refusal.{Refusal}
 use Rattle.store.specs.Store.{Store}
 use Rattle.store.specs.Outcome.{Outcome}
-use Rattle.store.specs.declared.Answer.{Answer}
 use Rattle.well_formed.specs.Root.{RootReason, RootReady}
 use Rattle.fresh.specs.Fresh.{FreshReason, FreshReady, fresh_page}
 
@@ -26,5 +26,5 @@ padded src = src ++ replicate (4096 - length src) 0
 abbrev pub InitDone : Store → ℕ → List ℕ → ℕ → Store → Type 0
 InitDone s root src v s' = (v ≡ 0) × (s' ≡ fresh_page s root 0 31 (padded src))
 
-abbrev pub Init : Store → ℕ → List ℕ → Answer → Store → Type 0
+abbrev pub Init : Store → ℕ → List ℕ → Result ℕ Refusal → Store → Type 0
 Init s root src r s' = Outcome (InitReason s root src) (InitDone s root src) s r s'

@@ -1,36 +1,31 @@
 // New pages at the end, after `uvm_alloc` of page_table.rs: judged whole, then done.
 ghost use Rattle.std.specs.Prelude.{◌≡◌};
 ghost use Rattle.store.specs.Outcome.{Judges};
-ghost use Rattle.store.specs.Store.{store_of};
+ghost use Rattle.store.specs.Store.{store_of, seen};
 ghost use Rattle.fresh.specs.Fresh.{CanFresh, fresh_pages};
 ghost use Rattle.grow.specs.Grow.{zeroed, GrowReason, GrowReady, Grow};
 
-use store::Answer;
+use refusal::Refusal;
+use store::Store;
 
 fn judge_grow(
-    words: &[u64],
-    tmarks: &[u32],
-    bytes: &[u8],
-    fmarks: &[u32],
+    store: &Store,
     root: u64,
     old: u64,
     new: u64,
-) -> u64
+) -> Result<(), Refusal>
     ensures { Judges
-        (GrowReason (store_of words.now tmarks.now bytes.now fmarks.now) root old new)
-        (GrowReady (store_of words.now tmarks.now bytes.now fmarks.now) root old new)
+        (GrowReason (seen store.now) root old new)
+        (GrowReady (seen store.now) root old new)
         result }
 {
-    let no = shrink::judge_sizes(words, tmarks, bytes, fmarks, root, old, new);
-    if no != 0 {
-        return no;
-    }
+    shrink::judge_sizes(store, root, old, new)?;
     let first = shrink::pages_to(old);
     let end = shrink::pages_to(new);
     if end <= first {
-        return 0;
+        return Ok(());
     }
-    fresh::judge_fresh(words, tmarks, bytes, fmarks, root as usize, first, end)
+    fresh::judge_fresh(store, root as usize, first, end)
 }
 
 // n pages from first on get frames of zeros with the flags 31. The search for a free frame goes on behind the last one taken.
@@ -66,15 +61,13 @@ pub fn uvm_alloc(
     root: u64,
     old: u64,
     new: u64,
-) -> Answer
+) -> Result<u64, Refusal>
     ensures { Grow
         (store_of words.old tmarks.old bytes.old fmarks.old) root old new result
         (store_of words.new tmarks.new bytes.new fmarks.new) }
 {
-    let no = judge_grow(words, tmarks, bytes, fmarks, root, old, new);
-    if no != 0 {
-        return Answer::Refused(no);
-    }
+    let store = Store { words, tmarks, bytes, fmarks };
+    judge_grow(&store, root, old, new)?;
     let first = shrink::pages_to(old);
     let end = shrink::pages_to(new);
     if first < end {
@@ -87,7 +80,7 @@ pub fn uvm_alloc(
             first,
             end - first,
         );
-        return Answer::Done(shrink::grown(old, new));
+        return Ok(shrink::grown(old, new));
     }
-    Answer::Done(shrink::grown(old, new))
+    Ok(shrink::grown(old, new))
 }

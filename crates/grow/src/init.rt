@@ -1,32 +1,27 @@
 // The first page of a process, after `uvm_init` of page_table.rs: judged whole, then done.
 ghost use Rattle.std.specs.Prelude.{◌≡◌, ◌<◌, length};
 ghost use Rattle.store.specs.Outcome.{Judges};
-ghost use Rattle.store.specs.Store.{store_of};
+ghost use Rattle.store.specs.Store.{store_of, seen};
 ghost use Rattle.grow.specs.Init.{padded, InitReason, InitReady, Init};
 
-use store::Answer;
+use refusal::Refusal;
+use store::Store;
 
 fn judge_init(
-    words: &[u64],
-    tmarks: &[u32],
-    bytes: &[u8],
-    fmarks: &[u32],
+    store: &Store,
     root: u64,
     src: &[u8],
-) -> u64
+) -> Result<(), Refusal>
     ensures { Judges
-        (InitReason (store_of words.now tmarks.now bytes.now fmarks.now) root src.now)
-        (InitReady (store_of words.now tmarks.now bytes.now fmarks.now) root src.now)
+        (InitReason (seen store.now) root src.now)
+        (InitReady (seen store.now) root src.now)
         result }
 {
-    let no = well_formed::judge_root(words, tmarks, bytes, fmarks, root);
-    if no != 0 {
-        return no;
-    }
+    well_formed::judge_root(store, root)?;
     if src.len() >= 4096 {
-        return 5;
+        return Err(Refusal::LongSource);
     }
-    fresh::judge_fresh(words, tmarks, bytes, fmarks, root as usize, 0, 1)
+    fresh::judge_fresh(store, root as usize, 0, 1)
 }
 
 // The source, then zeros.
@@ -47,16 +42,14 @@ pub fn uvm_init(
     fmarks: &mut [u32],
     root: u64,
     src: &[u8],
-) -> Answer
+) -> Result<u64, Refusal>
     ensures { Init
         (store_of words.old tmarks.old bytes.old fmarks.old) root src.now result
         (store_of words.new tmarks.new bytes.new fmarks.new) }
 {
-    let no = judge_init(words, tmarks, bytes, fmarks, root, src);
-    if no != 0 {
-        return Answer::Refused(no);
-    }
+    let store = Store { words, tmarks, bytes, fmarks };
+    judge_init(&store, root, src)?;
     let f = fresh::enter_frame(words, tmarks, fmarks, root as usize, 0, 31, 0);
     write_frame(&mut bytes[4096 * f..4096 * f + 4096], src);
-    Answer::Done(0)
+    Ok(0)
 }

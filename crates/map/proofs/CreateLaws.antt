@@ -5,14 +5,15 @@ use Prim.Native.Nat.{ℕ, suc, ◌+◌, ◌*◌, ◌/◌, ◌%◌, ◌^◌, ◌�
 use native.Mathlib.Nat.{le_refl}
 use native.Mathlib.Omega.{arith}
 use lib.ListN.{length, length-set}
+use Rattle.std.specs.Prelude.{Result, Ok, Err}
+use Rattle.refusal.specs.declared.Refusal.{Refusal}
+use Rattle.refusal.specs.Number.{number_of}
 use Rattle.store.specs.Store.{Store, Sized, mark}
 use Rattle.store.specs.Level.{home, level}
 use Rattle.store.specs.Count.{lowest, zeros, free, free_tables}
 use Rattle.store.specs.WellFormed.{WellFormed}
 use Rattle.store.specs.Walk.{slot_word, slot_in, slot, entry_at, resolve}
 use Rattle.store.specs.Outcome.{Smallest, NoReason}
-use Rattle.store.specs.declared.Answer.{Answer}
-use Rattle.store.specs.declared.Answer.TheVariants.{Done}
 use Rattle.store.proofs.Outcomes.{one_outcome}
 use Rattle.store.proofs.Tree.{TreeOf, tree_of, well_formed_of}
 use Rattle.well_formed.specs.Check.{Judged}
@@ -33,7 +34,7 @@ module _ (s : Store) where
   least n z w f k l (unformed h) = h (w l)
   least n z w f k l (no_table h) = f l h
 
-  pub not_judged : (n : ℕ) → Judged s n → (n ≡ 0 → ⊥) → Smallest R n
+  pub not_judged : (r : Refusal) → Judged s (Err r) → Smallest R (number_of r)
   not_judged =
       judged_no s R (λ h. record { applies = sizes h; least = least 1 (λ l. absurd (omega arith)) (λ l. absurd (omega arith)) (λ l. absurd (omega arith)) })
       (λ z h. record { applies = unformed h; least = least 2 (λ l. z) (λ l. absurd (omega arith)) (λ l. absurd (omega arith)) })
@@ -45,7 +46,7 @@ module _ (s : Store) where
   clear z w f k = least (suc k) (λ l. z) (λ l. w) (λ l e. omega arith) k (le_refl (suc k))
 
   -- two answers are the same, and so are the stores
-  pub one_create : (a a' : Answer) (t t' : Store) → Create s a t → Create s a' t' → (a ≡ a') × (t ≡ t')
+  pub one_create : (a a' : Result ℕ Refusal) (t t' : Store) → Create s a t → Create s a' t' → (a ≡ a') × (t ≡ t')
   one_create = one_outcome R (CreateDone s) (λ v v' t t' x y. (x.0 ∙ sym y.0, x.1 ∙ sym y.1)) s
 
 -- ---- a free table t becomes a root
@@ -106,7 +107,7 @@ module _ (s : Store) (z : Sized s) (w : TreeOf s) (t : ℕ) (tl : t < length s.t
   }
 
 -- what holds after the call
-pub create_creates : (s s' : Store) (v : ℕ) → Sized s → WellFormed s → 0 < free_tables s → Create s (Done v) s' → Created s v s'
+pub create_creates : (s s' : Store) (v : ℕ) → Sized s → WellFormed s → 0 < free_tables s → Create s (Ok v) s' → Created s v s'
 create_creates s s' v z w f d =
     let l = lowest_free s.tmarks f in
     subst (λ (x : Store). Created s v x) (sym d.1.1)

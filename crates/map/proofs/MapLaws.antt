@@ -2,15 +2,15 @@
 use mathlib.Core.Path.{◌≡◌, refl, sym, ap, ap₂, ◌∙◌, subst}
 use Prim.Native.Nat.{ℕ, ◌-◌, ◌*◌, ◌/◌, ◌^◌, ◌≤◌, ◌<◌}
 use native.Mathlib.Omega.{arith}
+use Rattle.std.specs.Prelude.{Result, Ok, Err}
+use Rattle.refusal.specs.declared.Refusal.{Refusal}
 use Rattle.address.specs.Answer.{Said, answered, refused}
 use Rattle.address.proofs.Answers.{value, clash}
 use Rattle.page_table_entry.specs.Built.{entry_of, Written}
 use Rattle.page_table_entry.proofs.Built.{entry}
 use Rattle.rounding.specs.Range.{first_page, end_page}
 use Rattle.store.specs.Store.{Store}
-use Rattle.store.specs.Outcome.{Judges}
-use Rattle.store.specs.declared.Answer.{Answer}
-use Rattle.store.specs.declared.Answer.TheVariants.{Refused, Done}
+use Rattle.store.specs.Outcome.{Smallest}
 use Rattle.store.proofs.Outcomes.{one_outcome}
 use Rattle.walk.specs.Missing.{missing_in, missing}
 use Rattle.walk.proofs.Calls.{root_in}
@@ -27,16 +27,13 @@ module _ (s : Store) (root va pa size perm : ℕ) where
   abbrev n : ℕ
   n = pages_of va size
 
-  pub refuse : (k : ℕ) → Judges (MapReason s root va pa size perm) (MapReady s root va pa size perm) k → (k ≡ 0 → ⊥) → Map s root va pa size perm (Refused k) s
-  refuse k j h = (j.reason h, refl)
-
   -- two answers to one call are the same, and so are the stores
-  pub one_map : (a a' : Answer) (t t' : Store) → Map s root va pa size perm a t → Map s root va pa size perm a' t' → (a ≡ a') × (t ≡ t')
+  pub one_map : (a a' : Result ℕ Refusal) (t t' : Store) → Map s root va pa size perm a t → Map s root va pa size perm a' t' → (a ≡ a') × (t ≡ t')
   one_map = one_outcome (MapReason s root va pa size perm) (MapDone s root va pa size perm) (λ v v' t t' x y. (x.0 ∙ sym y.0, x.1 ∙ sym y.1)) s
 
   module _ (f : MapReady s root va pa size perm) (first end : ℕ) (ef : first ≡ first_page va) (ee : end ≡ end_page va size) where
     -- no page is asked for
-    pub done_none : end ≤ first → Map s root va pa size perm (Done 0) s
+    pub done_none : end ≤ first → Map s root va pa size perm (Ok 0) s
     unfolding enter_pages
     done_none h =
         let z : n ≡ 0 = omega arith in (
@@ -76,7 +73,7 @@ module _ (s : Store) (root va pa size perm : ℕ) where
             (subst (λ (p : ℕ). CanEnter s root p (end - first) (entry_of (4096 * (pa / 4096)) perm)) (sym ef)
             (subst (λ (m : ℕ). CanEnter s root (first_page va) m (entry_of (4096 * (pa / 4096)) perm)) k c))
 
-        pub done : (v : ℕ) (s' : Store) → v ≡ missing_in s.words root first (end - first) → s' ≡ enter_pages s root first (end - first) e → Map s root va pa size perm (Done v) s'
+        pub done : (v : ℕ) (s' : Store) → v ≡ missing_in s.words root first (end - first) → s' ≡ enter_pages s root first (end - first) e → Map s root va pa size perm (Ok v) s'
         done v s' ev es =
             let k : end - first ≡ n = omega arith in (
               clear s root va pa size perm f,

@@ -7,8 +7,7 @@ use native.Mathlib.Omega.{arith}
 use Rattle.rounding.specs.Range.{first_page, end_page}
 use Rattle.store.specs.Store.{Store}
 use Rattle.store.specs.Count.{free_tables}
-use Rattle.store.specs.Outcome.{NoReason, Judges}
-use Rattle.store.proofs.Outcomes.{judges_no, judges_ok}
+use Rattle.store.specs.Outcome.{NoReason, Smallest}
 use Rattle.well_formed.specs.Root.{RootReason, RootReady}
 use Rattle.well_formed.proofs.RootReasons.{root_clear, root_first}
 use Rattle.walk.specs.Mapped.{Mapped}
@@ -51,8 +50,8 @@ module _ (s : Store) (root va pa size perm : ℕ) where
   split k (taken p f t h) = inr (omega arith)
   split k (too_few h) = inr (omega arith)
 
-  pub by_root : (n : ℕ) → (n ≡ 0 → ⊥) → Judges (RootReason s root) (RootReady s root) n → Judges R F n
-  by_root n h q = judges_no R F n h (root_first s root (λ k. at_root) split n (q.reason h))
+  pub by_root : (n : ℕ) → Smallest (RootReason s root) n → Smallest R n
+  by_root = root_first s root (λ k. at_root) split
 
   module _ (r : RootReady s root) where
     least : (n : ℕ) → ((k : ℕ) → k < n → N k → ⊥) → (14 < n → Unmapped) → (17 < n → Enough) → (k : ℕ) → k < n → R k → ⊥
@@ -61,11 +60,10 @@ module _ (s : Store) (root va pa size perm : ℕ) where
     least n o u e k l (taken p f t h) = u l p f t h
     least n o u e k l (too_few h) = omega (arith, e l)
 
-    pub no_numbers_lem : (n : ℕ) → Judges N (NumbersReady va pa size perm) n → (n ≡ 0 → ⊥) → Judges R F n
-    no_numbers_lem n j h =
-        let m = j.reason h in
+    pub no_numbers_lem : (n : ℕ) → Smallest N n → Smallest R n
+    no_numbers_lem n m =
         let b = number_range m.applies in
-        judges_no R F n h (record { applies = numbers m.applies; least = least n m.least (λ l. absurd (omega arith)) (λ l. absurd (omega arith)) })
+        record { applies = numbers m.applies; least = least n m.least (λ l. absurd (omega arith)) (λ l. absurd (omega arith)) }
 
     module _ (o : NumbersReady va pa size perm) (first end : ℕ) (ef : first ≡ first_page va) (ee : end ≡ end_page va size) where
       fine : (n k : ℕ) → k < n → N k → ⊥
@@ -75,14 +73,14 @@ module _ (s : Store) (root va pa size perm : ℕ) where
       pages = omega arith
 
       -- no page is asked for
-      pub nothing : end ≤ first → Judges R F 0
+      pub nothing : end ≤ first → F
       nothing h =
-          judges_ok R F 0 refl (record {
+          record {
             at_root = r;
             numbers = o;
             unmapped = λ p f t. absurd (omega arith);
             enough = let q : pages_of va size ≡ 0 = omega arith in omega (arith, ap (missing s root (first_page va)) q, missing_none s root (first_page va));
-          })
+          }
 
       module _ (h : first < end) where
         lacks : (m : ℕ) → m ≡ missing_in s.words root first (end - first) → m ≡ missing s root (first_page va) (pages_of va size)
@@ -90,29 +88,29 @@ module _ (s : Store) (root va pa size perm : ℕ) where
 
         -- c of the pages are mapped
         module _ (c : ℕ) (count : PagesAlike s.words root first end 1 1 c) where
-          pub no_14 : (c ≡ 0 → ⊥) → Judges R F 14
+          pub no_14 : (c ≡ 0 → ⊥) → Smallest R 14
           no_14 n =
               let q = one_has (entry_in s.words root 2) 1 1 first end c (omega arith) count (omega arith) in
-              judges_no R F 14 (omega arith) (record {
+              record {
                 applies = taken q.0 (omega (arith, q.1)) (omega (arith, q.2)) (counted_mapped s root q.0 q.3);
                 least = least 14 (λ k l. fine 14 k l) (λ l. absurd (omega arith)) (λ l. absurd (omega arith));
-              })
+              }
 
           free_range : c ≡ 0 → Unmapped
           free_range n p f t m =
               none_has (entry_in s.words root 2) 1 1 first end c (omega arith) count n p (omega arith) (omega arith) (mapped_counted s root p m)
 
           module _ (n : c ≡ 0) (m : ℕ) (em : m ≡ missing_in s.words root first (end - first)) where
-            pub no_17 : (m ≤ free_tables s → ⊥) → Judges R F 17
+            pub no_17 : (m ≤ free_tables s → ⊥) → Smallest R 17
             no_17 l =
-                judges_no R F 17 (omega arith) (record {
+                record {
                   applies = too_few (omega (arith, lacks m em));
                   least = least 17 (λ k l. fine 17 k l) (λ l. free_range n) (λ l. absurd (omega arith));
-                })
+                }
 
-            pub all_ready : m ≤ free_tables s → Judges R F 0
+            pub all_ready : m ≤ free_tables s → F
             all_ready l =
-                judges_ok R F 0 refl (record { at_root = r; numbers = o; unmapped = free_range n; enough = omega (arith, lacks m em) })
+                record { at_root = r; numbers = o; unmapped = free_range n; enough = omega (arith, lacks m em) }
 
   -- where the call is ready no reason applies
   pub clear : F → NoReason R

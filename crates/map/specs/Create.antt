@@ -1,11 +1,11 @@
 -- `uvmcreate`: why it is refused, what it answers, and what holds afterwards.
-use Rattle.std.specs.Prelude.{◌≡◌, ◌⊎◌, ℕ, suc, ◌^◌, ◌<◌, set}
+use Rattle.std.specs.Prelude.{◌≡◌, ◌⊎◌, ℕ, suc, ◌^◌, ◌<◌, set, Result}
+use Rattle.refusal.specs.declared.Refusal.{Refusal}
 use Rattle.store.specs.Store.{Store, Sized, mark}
 use Rattle.store.specs.WellFormed.{WellFormed}
 use Rattle.store.specs.Count.{lowest, free_tables}
 use Rattle.store.specs.Walk.{resolve}
 use Rattle.store.specs.Outcome.{Outcome}
-use Rattle.store.specs.declared.Answer.{Answer}
 
 pub data CreateReason (s : Store) : ℕ → Type 0 where
   sizes : (Sized s → ⊥) → CreateReason s 1
@@ -20,7 +20,7 @@ rooted s t = record { words = s.words; tmarks = set s.tmarks t 1; bytes = s.byte
 abbrev pub CreateDone : Store → ℕ → Store → Type 0
 CreateDone s v s' = (v ≡ lowest s.tmarks) × (s' ≡ rooted s (lowest s.tmarks))
 
-abbrev pub Create : Store → Answer → Store → Type 0
+abbrev pub Create : Store → Result ℕ Refusal → Store → Type 0
 Create s r s' = Outcome (CreateReason s) (CreateDone s) s r s'
 
 -- root t of s' is new and has no page; the roots of s and their pages are as they were

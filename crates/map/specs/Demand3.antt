@@ -1,5 +1,5 @@
 -- Demand 3: when `map` succeeds, and what holds of the store afterwards.
-use Rattle.std.specs.Prelude.{◌≡◌, ◌↔◌, ℕ, ◌+◌, ◌*◌, ◌/◌, ◌^◌, ◌≤◌, ◌<◌}
+use Rattle.std.specs.Prelude.{◌≡◌, ◌↔◌, ℕ, ◌+◌, ◌*◌, ◌/◌, ◌^◌, ◌≤◌, ◌<◌, Ok}
 use Rattle.page_table_entry.specs.Layout.{bit_v, flags, frame_number}
 use Rattle.page_table_entry.specs.Change.{with_bit}
 use Rattle.page_table_entry.specs.Built.{entry_of}
@@ -8,7 +8,6 @@ use Rattle.store.specs.Store.{Store, Sized, mark}
 use Rattle.store.specs.WellFormed.{Outside, WellFormed}
 use Rattle.store.specs.Count.{free_tables}
 use Rattle.store.specs.Walk.{resolve}
-use Rattle.store.specs.declared.Answer.TheVariants.{Done}
 use Rattle.walk.specs.Mapped.{Mapped, Other}
 use Rattle.walk.specs.Missing.{missing}
 use Rattle.map.specs.Numbers.{pages_of}
@@ -53,10 +52,10 @@ pub record Entered (s : Store) (r p n frame q : ℕ) (s' : Store) : Type 0 where
 -- what is asked of a call that meets none of the refusals 1 to 10
 pub record Kept (s : Store) (root va pa size perm : ℕ) : Type 0 where
   -- it succeeds exactly when no page of the range is mapped and the missing tables are no more than the free ones
-  pub exactly : ((v : ℕ) × (s' : Store) × Map s root va pa size perm (Done v) s') ↔ Room s root (first_page va) (pages_of va size)
+  pub exactly : ((v : ℕ) × (s' : Store) × Map s root va pa size perm (Ok v) s') ↔ Room s root (first_page va) (pages_of va size)
   -- then the pages are mapped, and the answer is the number of tables taken
-  pub entered : (v : ℕ) (s' : Store) → Map s root va pa size perm (Done v) s' → Entered s root (first_page va) (pages_of va size) (pa / 4096) perm s'
-  pub answer : (v : ℕ) (s' : Store) → Map s root va pa size perm (Done v) s' → v ≡ missing s root (first_page va) (pages_of va size)
+  pub entered : (v : ℕ) (s' : Store) → Map s root va pa size perm (Ok v) s' → Entered s root (first_page va) (pages_of va size) (pa / 4096) perm s'
+  pub answer : (v : ℕ) (s' : Store) → Map s root va pa size perm (Ok v) s' → v ≡ missing s root (first_page va) (pages_of va size)
 
 abbrev pub Demand3 : Store → ℕ → ℕ → ℕ → ℕ → ℕ → Type 0
 Demand3 s root va pa size perm = Fit s root (first_page va) (pages_of va size) (pa / 4096) perm → Kept s root va pa size perm

@@ -1,10 +1,12 @@
 // The judge of map: the smallest refusal that applies, or 0. It only reads.
 ghost use Rattle.store.specs.Outcome.{Judges};
-ghost use Rattle.store.specs.Store.{store_of};
+ghost use Rattle.store.specs.Store.{seen};
 ghost use Rattle.map.specs.Numbers.{NumberReason, NumbersReady};
 ghost use Rattle.map.specs.Reasons.{MapReason, MapReady};
 
 use address::{MAXVA, PhysicalAddress, VirtualAddress};
+use refusal::Refusal;
+use store::Store;
 
 const PAGES: u64 = 1 << 26;
 
@@ -15,77 +17,76 @@ const WINDOW: u64 = 0x10_0000;
 const WINDOW_END: u64 = 0x12_0000;
 
 // What the numbers alone are refused with: 6, 8, 9 or 10, or 0. Where no page is asked for there is no frame either.
-fn judge_numbers(va: VirtualAddress, pa: PhysicalAddress, size: u64, perm: u64) -> u64
+fn judge_numbers(
+    va: VirtualAddress,
+    pa: PhysicalAddress,
+    size: u64,
+    perm: u64,
+) -> Result<(), Refusal>
     ensures { Judges (NumberReason va.0 pa.0 size perm) (NumbersReady va.0 pa.0 size perm) result }
 {
     if size > MAXVA {
-        return 6;
+        return Err(Refusal::TooHigh);
     }
     let range = rounding::page_range(va, size);
     let first = range.first;
     let end = range.end;
     if end <= first {
         if perm > 1023 {
-            return 8;
+            return Err(Refusal::Permissions);
         }
-        return 0;
+        return Ok(());
     }
     if end > PAGES {
-        return 6;
+        return Err(Refusal::TooHigh);
     }
     if perm > 1023 {
-        return 8;
+        return Err(Refusal::Permissions);
     }
     let frame = pa.0 / 4096;
     let past = frame + (end - first);
     if past > FRAMES {
-        return 9;
+        return Err(Refusal::FrameTooHigh);
     }
     if past <= WINDOW {
-        return 0;
+        return Ok(());
     }
     if frame >= WINDOW_END {
-        return 0;
+        return Ok(());
     }
-    10
+    Err(Refusal::HeldWindow)
 }
 
 pub fn judge_map(
-    words: &[u64],
-    tmarks: &[u32],
-    bytes: &[u8],
-    fmarks: &[u32],
+    store: &Store,
     root: u64,
     va: VirtualAddress,
     pa: PhysicalAddress,
     size: u64,
     perm: u64,
-) -> u64
+) -> Result<(), Refusal>
     ensures { Judges
-        (MapReason (store_of words.now tmarks.now bytes.now fmarks.now) root va.0 pa.0 size perm)
-        (MapReady (store_of words.now tmarks.now bytes.now fmarks.now) root va.0 pa.0 size perm)
+        (MapReason (seen store.now) root va.0 pa.0 size perm)
+        (MapReady (seen store.now) root va.0 pa.0 size perm)
         result }
 {
-    let no = well_formed::judge_root(words, tmarks, bytes, fmarks, root);
-    if no != 0 {
-        return no;
-    }
+    well_formed::judge_root(store, root)?;
     let r = root as usize;
-    let numbers = judge_numbers(va, pa, size, perm);
-    if numbers != 0 {
-        return numbers;
-    }
+    judge_numbers(va, pa, size, perm)?;
     let range = rounding::page_range(va, size);
     let first = range.first as usize;
     let end = range.end as usize;
     if end <= first {
-        return 0;
+        return Ok(());
     }
-    if walk::count_pages(words, r, first, end, 1, 1) != 0 {
-        return 14;
+    if walk::count_pages(store.words, r, first, end, 1, 1) != 0 {
+        return Err(Refusal::MappedAlready);
     }
-    if !store::enough_free(tmarks, walk::missing_tables(words, r, first, end)) {
-        return 17;
+    if !store::enough_free(
+        store.tmarks,
+        walk::missing_tables(store.words, r, first, end),
+    ) {
+        return Err(Refusal::TooFewTables);
     }
-    0
+    Ok(())
 }

@@ -4,8 +4,9 @@ ghost use Rattle.map.specs.Map.{Map};
 
 use super::judge;
 use address::{PhysicalAddress, VirtualAddress};
-use page_table_entry::{EntryAnswer, PageTableEntry};
-use store::Answer;
+use page_table_entry::PageTableEntry;
+use refusal::Refusal;
+use store::Store;
 
 // Maps the pages that size bytes from va on lie in, to the frames from pa on. Answers how many tables it took.
 pub fn map(
@@ -18,28 +19,27 @@ pub fn map(
     pa: PhysicalAddress,
     size: u64,
     perm: u64,
-) -> Answer
+) -> Result<u64, Refusal>
     ensures { Map
         (store_of words.old tmarks.old bytes.now fmarks.now) root va.0 pa.0 size perm result
         (store_of words.new tmarks.new bytes.now fmarks.now) }
 {
-    let no = judge::judge_map(words, tmarks, bytes, fmarks, root, va, pa, size, perm);
-    if no != 0 {
-        return Answer::Refused(no);
-    }
+    let store = Store {
+        words,
+        tmarks,
+        bytes,
+        fmarks,
+    };
+    judge::judge_map(&store, root, va, pa, size, perm)?;
     let range = rounding::page_range(va, size);
     let first = range.first as usize;
     let end = range.end as usize;
     if end <= first {
-        return Answer::Done(0);
+        return Ok(0);
     }
-    match PageTableEntry::write_perm(pa, perm) {
-        EntryAnswer::Refused(number) => Answer::Refused(number),
-        EntryAnswer::Built(e) => {
-            let r = root as usize;
-            let taken = walk::missing_tables(words, r, first, end);
-            enter::enter_pages(words, tmarks, bytes, fmarks, r, first, end - first, e.0);
-            Answer::Done(taken as u64)
-        }
-    }
+    let e = PageTableEntry::write_perm(pa, perm)?;
+    let r = root as usize;
+    let taken = walk::missing_tables(words, r, first, end);
+    enter::enter_pages(words, tmarks, bytes, fmarks, r, first, end - first, e.0);
+    Ok(taken as u64)
 }

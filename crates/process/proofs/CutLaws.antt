@@ -6,10 +6,10 @@ use Prim.Native.Nat.{ℕ, zero, suc, ◌+◌, ◌^◌, ◌<◌}
 use native.Mathlib.Nat.{add-zero}
 use native.Mathlib.Decide.{ℕ_discrete}
 use native.Mathlib.Omega.{arith}
+use Rattle.std.specs.Prelude.{Err}
 use Rattle.store.specs.Store.{Store}
 use Rattle.store.specs.Walk.{resolve}
-use Rattle.store.specs.Outcome.{Judges}
-use Rattle.store.specs.declared.Answer.TheVariants.{Refused}
+use Rattle.store.specs.Outcome.{Smallest}
 use Rattle.well_formed.specs.Root.{RootReason, RootReady}
 use Rattle.unmap.specs.Leave.{leave_slot, leave_pages, CanLeave}
 use Rattle.unmap.specs.Gone.{Gone}
@@ -49,8 +49,8 @@ module _ (s : Store) (root top : ℕ) (t : Store) (c : Cut s root (top + 1) t) (
 
 -- ---- 1, 2 and 3 are refused by the first part, whichever it is
 
-module _ (s : Store) (root : ℕ) (k : ℕ) (j : Judges (RootReason s root) (RootReady s root) k) where
-  refuses : (size : ℕ) → (k ≡ 0 → ⊥) → UvmFree root size s (Refused k) s
+module _ (s : Store) (root : ℕ) (k : ℕ) (j : Smallest (RootReason s root) k) where
+  refuses : (size : ℕ) → (k ≡ 0 → ⊥) → UvmFree root size s (Err k) s
   refuses zero h = ((by_root s root k h j).reason h, refl)
   refuses (suc size) h = (inl (root_least s root 0 _ _ k (j.reason h), refl), refl)
 

@@ -8,7 +8,7 @@ use Rattle.address.specs.Field.{bit}
 use Rattle.page_table_entry.specs.Layout.{bit_v, flags}
 use Rattle.store.specs.Store.{Store, frame_no}
 use Rattle.store.specs.Walk.{resolve}
-use Rattle.store.specs.Outcome.{Judges}
+use Rattle.store.specs.Outcome.{Smallest}
 use Rattle.unmap.specs.Leave.{MeetsPool, LeaveReason, pooled, unmapped, bare, LeaveReady}
 
 -- the words of the pages are the same in s and t, and so is the number of frames
@@ -36,7 +36,7 @@ module _ {s t : Store} {r p n : ℕ} (e : SamePages s t r p n) (freeing : Bool) 
     full = λ i l h. f.full i l (ap flags (sym (e.pages i l)) ∙ h);
   }
 
-  pub judges_same : (k : ℕ) → Judges (LeaveReason s r p n freeing) (LeaveReady s r p n freeing) k → Judges (LeaveReason t r p n freeing) (LeaveReady t r p n freeing) k
+  pub judges_same : (k : ℕ) → Smallest (LeaveReason s r p n freeing) k → Smallest (LeaveReason t r p n freeing) k
   judges_same k j = record {
     ready = λ z. ready_same (j.ready z);
     reason = λ h. let m = j.reason h in record { applies = carried e freeing k m.applies; least = λ i l q. m.least i l (carried (turned e) freeing i q) };

@@ -8,13 +8,13 @@ use native.Mathlib.Decide.{ℕ_discrete, dec_lt}
 use native.Mathlib.Omega.{arith}
 use lib.ListN.{length, get_or, length-replicate}
 use lib.Seq.{ext_get_or}
+use Rattle.std.specs.Prelude.{Result, Ok, Err}
+use Rattle.refusal.specs.declared.Refusal.{Refusal}
 use Rattle.store.specs.Store.{Store, Sized, word, mark, frame_no, pool_no}
 use Rattle.store.specs.WellFormed.{WellFormed}
 use Rattle.store.specs.Count.{free, free_tables}
 use Rattle.store.specs.Walk.{resolve}
 use Rattle.store.specs.Owners.{Below}
-use Rattle.store.specs.declared.Answer.{Answer}
-use Rattle.store.specs.declared.Answer.TheVariants.{Refused, Done}
 use Rattle.store.proofs.Tree.{tree_of}
 use Rattle.well_formed.specs.Root.{RootReady, Asked}
 use Rattle.walk.specs.Missing.{missing}
@@ -49,7 +49,7 @@ use Rattle.process.proofs.RootTables.{filled_too, left_too}
 -- ---- the tables: r was free in s, and is freed in s'
 
 module _ (s : Store) (z : Sized s) (c : WellFormed s) (r : ℕ) (rf : mark s.tmarks r ≡ 0) (s' : Store) (rr : RootReady s' r) (o : OtherTables s r s')
-    (v : ℕ) (s'' : Store) (u : Free s' r (Done v) s'') where
+    (v : ℕ) (s'' : Store) (u : Free s' r (Ok v) s'') where
   f : Freed s' r v s''
   f = free_freed s' r v s'' rr u
 
@@ -86,7 +86,7 @@ module _ (s : Store) (z : Sized s) (c : WellFormed s) (r : ℕ) (rf : mark s.tma
 
 -- ---- table t has been created, and n bytes of it have got frames
 
-module _ (s : Store) (z : Sized s) (c : WellFormed s) (t : ℕ) (s₁ : Store) (d : Create s (Done t) s₁) (n v : ℕ) (s₂ : Store) (u : Grow s₁ t 0 n (Done v) s₂) where
+module _ (s : Store) (z : Sized s) (c : WellFormed s) (t : ℕ) (s₁ : Store) (d : Create s (Ok t) s₁) (n v : ℕ) (s₂ : Store) (u : Grow s₁ t 0 n (Ok v) s₂) where
   some : 0 < free_tables s
   some = by_cases (dec_lt 0 (free_tables s)) (λ l. l) (λ l. absurd (d.0 17 (no_table (omega arith))))
 
@@ -160,7 +160,7 @@ module _ (s : Store) (z : Sized s) (c : WellFormed s) (t : ℕ) (s₁ : Store) (
         let j : gained 0 n ≡ pages_to n = omega arith in
         omega (arith, made.taken, g.tables, q.tables, ap free e, ap₂ (missing s₁ t) i j)
 
-    all_back : (s₃.words ≡ s.words) × (s₃.tmarks ≡ s.tmarks) → (Done w ≡ Done (suc (missing s₁ t 0 (pages_to n)))) × Restored s s₃
+    all_back : (s₃.words ≡ s.words) × (s₃.tmarks ≡ s.tmarks) → (Ok w ≡ Done (suc (missing s₁ t 0 (pages_to n)))) × Restored s s₃
     all_back e = (ap Done (answer e.1), restored e)
 
   -- ---- the release of k bytes, which are n
@@ -184,7 +184,7 @@ module _ (s : Store) (z : Sized s) (c : WellFormed s) (t : ℕ) (s₁ : Store) (
       pages = record { foreign = λ m. true≢false m.0; mapped = λ i l. omega (arith, (entry i l).1); full = λ i l x. omega (arith, (entry i l).1) };
     }
 
-    module _ (x : ℕ) (s' : Store) (m : Unmap s₂ t 0 (pages_to k) true (Done x) s') where
+    module _ (x : ℕ) (s' : Store) (m : Unmap s₂ t 0 (pages_to k) true (Ok x) s') where
       gone : Gone s₂ t (0 / 4096) (pages_to k) true s'
       gone = unmap_gone s₂ t 0 (pages_to k) true x s' asked₂ m
 
@@ -209,14 +209,14 @@ module _ (s : Store) (z : Sized s) (c : WellFormed s) (t : ℕ) (s₁ : Store) (
   empty_ready : n ≡ 0 → FreeReady s₂ t
   empty_ready e = record { at_root = ready₂; unmapped = λ h. word_mapped s₂ g.sized g.well_formed t ready₂.is_root h.0 h.1 h.2 (past h.0 h.1 (omega arith)) }
 
-  release : (k : ℕ) → n ≡ k → (a : Answer) (s₃ : Store) → UvmFree t k s₂ a s₃ → (a ≡ Done (suc (missing s₁ t 0 (pages_to n)))) × Restored s s₃
-  release zero e (Refused j) s₃ x = absurd (clear s₂ t (empty_ready e) j x.0.applies)
-  release zero e (Done w) s₃ x = all_back w s₃ (uvm_free_gone t zero s₂ w s₃ ready₂ x) (tables_back s z c t made.was_free s₂ ready₂ others₂ w s₃ x)
-  release (suc k) e (Refused j) s₃ (inl x, _) = absurd (unmapping.clear s₂ t 0 (pages_to (suc k)) true (unmap_ready (suc k) e) j x.0.applies)
-  release (suc k) e (Refused j) s₃ (inr (i, s', x, y), _) = absurd (clear s' t (free_ready (suc k) e i s' x) j y.0.applies)
-  release (suc k) e (Done w) s₃ (i, s', x, y) =
+  release : (k : ℕ) → n ≡ k → (a : Result ℕ Refusal) (s₃ : Store) → UvmFree t k s₂ a s₃ → (a ≡ Done (suc (missing s₁ t 0 (pages_to n)))) × Restored s s₃
+  release zero e (Err j) s₃ x = absurd (clear s₂ t (empty_ready e) j x.0.applies)
+  release zero e (Ok w) s₃ x = all_back w s₃ (uvm_free_gone t zero s₂ w s₃ ready₂ x) (tables_back s z c t made.was_free s₂ ready₂ others₂ w s₃ x)
+  release (suc k) e (Err j) s₃ (inl x, _) = absurd (unmapping.clear s₂ t 0 (pages_to (suc k)) true (unmap_ready (suc k) e) j x.0.applies)
+  release (suc k) e (Err j) s₃ (inr (i, s', x, y), _) = absurd (clear s' t (free_ready (suc k) e i s' x) j y.0.applies)
+  release (suc k) e (Ok w) s₃ (i, s', x, y) =
       all_back w s₃ (uvm_free_gone t (suc k) s₂ w s₃ ready₂ (i, s', x, y)) (tables_back s z c t made.was_free s' (ready' (suc k) e i s' x) (others' (suc k) e i s' x) w s₃ y)
 
   -- `uvm_free` of the same n bytes is not refused, its answer counts the root and the tables that the filling took, and the store is as it was before the root
-  pub lifetime : (a : Answer) (s₃ : Store) → UvmFree t n s₂ a s₃ → (a ≡ Done (suc (missing s₁ t 0 (pages_to n)))) × Restored s s₃
+  pub lifetime : (a : Result ℕ Refusal) (s₃ : Store) → UvmFree t n s₂ a s₃ → (a ≡ Done (suc (missing s₁ t 0 (pages_to n)))) × Restored s s₃
   lifetime = release n refl

@@ -4,10 +4,10 @@ use mathlib.Core.Logic.{inl, inr}
 use mathlib.Core.Bool.{false}
 use Prim.Native.Nat.{ℕ, ◌+◌, ◌/◌, ◌%◌}
 use native.Mathlib.Omega.{arith}
+use Rattle.std.specs.Prelude.{Result, Ok, Err}
+use Rattle.refusal.specs.declared.Refusal.{Refusal}
 use Rattle.store.specs.Store.{Store}
-use Rattle.store.specs.Outcome.{Judges}
-use Rattle.store.specs.declared.Answer.{Answer}
-use Rattle.store.specs.declared.Answer.TheVariants.{Refused, Done}
+use Rattle.store.specs.Outcome.{Smallest}
 use Rattle.well_formed.specs.Root.{RootReady, Asked}
 use Rattle.unmap.specs.Leave.{LeaveReason, LeaveReady, leave_pages, CanLeave}
 use Rattle.unmap.specs.Unmap.{UnmapReason, UnmapReady}
@@ -20,15 +20,15 @@ use Rattle.process.proofs.CutLaws.{whole, one_less}
 
 -- ---- a page at va, and then Q, where F is enough for Q
 
-module _ (root va : ℕ) (aligned : va % 4096 ≡ 0) (Q : Store → Answer → Store → Type 0) (s : Store) where
+module _ (root va : ℕ) (aligned : va % 4096 ≡ 0) (Q : Store → Result ℕ Refusal → Store → Type 0) (s : Store) where
   abbrev t : Store
   t = leave_pages s root (va / 4096) 1 false
 
-  page_refused : (F : Store → Type 0) (k : ℕ) → (k ≡ 0 → ⊥) → UnmapOne root va s (Refused k) s → JudgesParts (Then (UnmapOne root va) Q) F s k
+  page_refused : (F : Store → Type 0) (k : ℕ) → (k ≡ 0 → ⊥) → UnmapOne root va s (Err k) s → JudgesParts (Then (UnmapOne root va) Q) F s k
   page_refused F k h u = record { ready = λ e. absurd (h e); reason = λ _. (inl u, refl) }
 
   module _ (c : CanLeave s root (va / 4096) 1 false) where
-    gone : UnmapOne root va s (Done 0) t
+    gone : UnmapOne root va s (Ok 0) t
     gone = left_done s root va 1 false aligned c
 
     page_then : (F : Store → Type 0) (k : ℕ) → JudgesParts Q F t k → JudgesParts (Then (UnmapOne root va) Q) (PageReady root (va / 4096) F) s k
@@ -37,12 +37,12 @@ module _ (root va : ℕ) (aligned : va % 4096 ≡ 0) (Q : Store → Answer → S
       reason = λ h. (inr (0, t, gone, j.reason h), refl);
     }
 
-    page_done : (v : ℕ) (u : Store) → Q t (Done v) u → Then (UnmapOne root va) Q s (Done v) u
+    page_done : (v : ℕ) (u : Store) → Q t (Ok v) u → Then (UnmapOne root va) Q s (Ok v) u
     page_done v u q = (0, t, gone, q)
 
 -- ---- TRAMPOLINE is judged by k
 
-module _ (s : Store) (root size k : ℕ) (j : Judges (UnmapReason s root trampoline 1 false) (UnmapReady s root trampoline 1 false) k) where
+module _ (s : Store) (root size k : ℕ) (j : Smallest (UnmapReason s root trampoline 1 false) k) where
   pub shared_refused : (k ≡ 0 → ⊥) → JudgesParts (SharedFree root size) (SharedReady root size) s k
   shared_refused h = page_refused root trampoline refl (UvmFree root size) s (SharedReady root size) k h (refuse s root trampoline 1 false k j h)
 
@@ -72,11 +72,11 @@ module _ (s : Store) (root size k : ℕ) (j : Judges (UnmapReason s root trampol
 
     -- ---- and then TRAPFRAME by l, on the store as it is
 
-    module _ (l : ℕ) (i : Judges (LeaveReason s root (trapframe / 4096) 1 false) (LeaveReady s root (trapframe / 4096) 1 false) l) where
+    module _ (l : ℕ) (i : Smallest (LeaveReason s root (trapframe / 4096) 1 false) l) where
       same : SamePages s s₁ root (trapframe / 4096) 1
       same = record { pages = λ n h. cut.below (trapframe / 4096 + n) (omega arith); frames = cut.frames }
 
-      judged : Judges (UnmapReason s₁ root trapframe 1 false) (UnmapReady s₁ root trapframe 1 false) l
+      judged : Smallest (UnmapReason s₁ root trapframe 1 false) l
       judged =
           by_pages s₁ root trapframe 1 false cut.at_root (λ h. omega (arith, h.1, h.2)) refl l (judges_same same false l i)
 
@@ -105,9 +105,9 @@ module _ (s : Store) (root size : ℕ) where
     pub shared_rest : RestReady root size t
     shared_rest = subst (RestReady root size) (sym e) f.rest
 
-    pub shared_done : (v : ℕ) (u : Store) → UvmFree root size t (Done v) u → SharedFree root size s (Done v) u
+    pub shared_done : (v : ℕ) (u : Store) → UvmFree root size t (Ok v) u → SharedFree root size s (Ok v) u
     shared_done v u d =
-        page_done root trampoline refl (UvmFree root size) s f.leave v u (subst (λ (x : Store). UvmFree root size x (Done v) u) e d)
+        page_done root trampoline refl (UvmFree root size) s f.leave v u (subst (λ (x : Store). UvmFree root size x (Ok v) u) e d)
 
   module _ (f : ProcReady root size s) (t : Store) (e : t ≡ leave_pages s root (trampoline / 4096) 1 false) where
     pub can_next : CanLeave t root (trapframe / 4096) 1 false
@@ -120,8 +120,8 @@ module _ (s : Store) (root size : ℕ) where
       pub proc_rest : RestReady root size t'
       proc_rest = subst (RestReady root size) (sym both_gone) f.rest.rest
 
-      pub proc_done : (v : ℕ) (u : Store) → UvmFree root size t' (Done v) u → ProcFree root size s (Done v) u
+      pub proc_done : (v : ℕ) (u : Store) → UvmFree root size t' (Ok v) u → ProcFree root size s (Ok v) u
       proc_done v u d =
           page_done root trampoline refl (Then (UnmapOne root trapframe) (UvmFree root size)) s f.leave v u
           (page_done root trapframe refl (UvmFree root size) (leave_pages s root (trampoline / 4096) 1 false) f.rest.leave v u
-          (subst (λ (x : Store). UvmFree root size x (Done v) u) both_gone d))
+          (subst (λ (x : Store). UvmFree root size x (Ok v) u) both_gone d))

@@ -8,13 +8,12 @@ use native.Mathlib.Nat.{le_refl, zero-add}
 use native.Mathlib.Decide.{dec_lt}
 use native.Mathlib.Omega.{arith}
 use lib.ListN.{length}
+use Rattle.std.specs.Prelude.{Ok, Err}
 use Rattle.address.specs.Field.{bit}
 use Rattle.page_table_entry.specs.Layout.{bit_v}
 use Rattle.store.specs.Store.{Store, store_of}
 use Rattle.store.specs.Walk.{resolve}
-use Rattle.store.specs.Outcome.{Judges}
-use Rattle.store.specs.declared.Answer.TheVariants.{Refused, Done}
-use Rattle.store.proofs.Outcomes.{judges_no}
+use Rattle.store.specs.Outcome.{Smallest}
 use Rattle.well_formed.specs.Root.{RootReady, Asked}
 use Rattle.walk.specs.Mapped.{Mapped}
 use Rattle.walk.specs.Missing.{entry_in}
@@ -51,22 +50,22 @@ module _ (root size : ℕ) (s : Store) (c : CanLeave s root 0 (pages_to size) tr
   root_stays = still_root s root 0 (pages_to size) true (left root size s) c.asked.at_root.is_root have_gone
 
   -- the first of the two parts
-  first_done : Unmap s root 0 (pages_to size) true (Done 0) (left root size s)
+  first_done : Unmap s root 0 (pages_to size) true (Ok 0) (left root size s)
   first_done = left_done s root 0 (pages_to size) true refl c
 
 -- ---- the answer, from those of the two parts
 
 module _ (root : ℕ) where
-  first_refuses : (size : ℕ) (s : Store) (k : ℕ) → (size ≡ 0 → ⊥) → Unmap s root 0 (pages_to size) true (Refused k) s → UvmFree root size s (Refused k) s
+  first_refuses : (size : ℕ) (s : Store) (k : ℕ) → (size ≡ 0 → ⊥) → Unmap s root 0 (pages_to size) true (Err k) s → UvmFree root size s (Err k) s
   first_refuses zero s k h u = absurd (h refl)
   first_refuses (suc size) s k h u = (inl u, refl)
 
-  second_refuses : (size : ℕ) (s : Store) (k : ℕ) → CanLeave s root 0 (pages_to size) true → Free (left root size s) root (Refused k) (left root size s) → UvmFree root size s (Refused k) s
+  second_refuses : (size : ℕ) (s : Store) (k : ℕ) → CanLeave s root 0 (pages_to size) true → Free (left root size s) root (Err k) (left root size s) → UvmFree root size s (Err k) s
   unfolding leave_pages
   second_refuses zero s k c f = f
   second_refuses (suc size) s k c f = (inr (0, left root (suc size) s, first_done root (suc size) s c, f), refl)
 
-  both_done : (size : ℕ) (s : Store) (v : ℕ) (t : Store) → CanLeave s root 0 (pages_to size) true → Free (left root size s) root (Done v) t → UvmFree root size s (Done v) t
+  both_done : (size : ℕ) (s : Store) (v : ℕ) (t : Store) → CanLeave s root 0 (pages_to size) true → Free (left root size s) root (Ok v) t → UvmFree root size s (Ok v) t
   unfolding leave_pages
   both_done zero s v t c f = f
   both_done (suc size) s v t c f = (0, left root (suc size) s, first_done root (suc size) s c, f)
@@ -78,9 +77,9 @@ module _ (s : Store) (root size top : ℕ) (t : Store) (c : Cut s root top t) wh
   P k = JudgesParts (UvmFree root size) (RestReady root size) t k
 
   abbrev J : Store → ℕ → Type 0
-  J u k = Judges (LeaveReason u root 0 (pages_to size) true) (LeaveReady u root 0 (pages_to size) true) k
+  J u k = Smallest (LeaveReason u root 0 (pages_to size) true) k
 
-  refused : (k : ℕ) → (k ≡ 0 → ⊥) → UvmFree root size t (Refused k) t → P k
+  refused : (k : ℕ) → (k ≡ 0 → ⊥) → UvmFree root size t (Err k) t → P k
   refused k h u = record { ready = λ e. absurd (h e); reason = λ _. u }
 
   too_large : 2 ^ 38 < size → P 6
@@ -108,10 +107,10 @@ module _ (s : Store) (root size top : ℕ) (t : Store) (c : Cut s root top t) wh
     past : top < pages_to size → top < 2 ^ 26 → P 11
     past h l =
         by_leave 11 (omega arith)
-        (judges_no (LeaveReason t root 0 (pages_to size) true) (LeaveReady t root 0 (pages_to size) true) 11 (omega arith) (record {
+        (record {
           applies = unmapped top h (λ m. omega (arith, ap (resolve t root) (zero-add top), c.gone top (le_refl top) l));
           least = none;
-        }))
+        })
       where
         none : (k : ℕ) → k < 11 → LeaveReason t root 0 (pages_to size) true k → ⊥
         none k l (pooled m) = true≢false m.0
@@ -180,9 +179,9 @@ module _ (s : Store) (root size top : ℕ) (high : top ≤ 2 ^ 26) where
       pub can_count : RootReady s root → (root < 512) × (n ≤ top) × (top ≤ 2 ^ 26) × (0 < 1)
       can_count r = (root_in s root r.sized r.is_root, h, high, omega arith)
 
-      module _ (k : ℕ) (j : Judges (LeaveReason s root 0 (n - 0) true) (LeaveReady s root 0 (n - 0) true) k) where
-        judged : Judges (LeaveReason s root 0 (pages_to size) true) (LeaveReady s root 0 (pages_to size) true) k
-        judged = let q : n - 0 ≡ pages_to size = omega arith in subst (λ (x : ℕ). Judges (LeaveReason s root 0 x true) (LeaveReady s root 0 x true) k) q j
+      module _ (k : ℕ) (j : Smallest (LeaveReason s root 0 (n - 0) true) k) where
+        judged : Smallest (LeaveReason s root 0 (pages_to size) true) k
+        judged = let q : n - 0 ≡ pages_to size = omega arith in subst (λ (x : ℕ). Smallest (LeaveReason s root 0 x true) k) q j
 
         pub pages_refused : (k ≡ 0 → ⊥) → JudgesRest s root size top k
         pages_refused o t c = by_leave s root size top t c small k o (judges_same (same s root size top t c small (omega arith)) true k judged)
@@ -214,7 +213,7 @@ module _ (s : Store) (root size : ℕ) (f : RestReady root size s) where
       pub may_free_rest : (root < length t.tmarks) × (length t.words ≡ 512 * length t.tmarks) × (2 ≤ 2)
       may_free_rest = may_free t root free_ready
 
-      pub rest_done : (ws ms : List ℕ) (v : ℕ) → trees ws ms v ≡ free_tree 2 root t.words t.tmarks → UvmFree root size s (Done v) (store_of ws ms t.bytes t.fmarks)
+      pub rest_done : (ws ms : List ℕ) (v : ℕ) → trees ws ms v ≡ free_tree 2 root t.words t.tmarks → UvmFree root size s (Ok v) (store_of ws ms t.bytes t.fmarks)
       rest_done ws ms v d =
           both_done root size s v (store_of ws ms t.bytes t.fmarks) f.leave
-          (subst (λ (x : Store). Free x root (Done v) (store_of ws ms t.bytes t.fmarks)) (q ∙ ap (λ (x : ℕ). leave_pages s root 0 x true) e) (done t root free_ready ws ms v d))
+          (subst (λ (x : Store). Free x root (Ok v) (store_of ws ms t.bytes t.fmarks)) (q ∙ ap (λ (x : ℕ). leave_pages s root 0 x true) e) (done t root free_ready ws ms v d))

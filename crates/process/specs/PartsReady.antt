@@ -1,9 +1,8 @@
 -- What the judges of the calls made of parts answer. They read the store as it is, and speak of what the parts before would leave.
-use Rattle.std.specs.Prelude.{◌≡◌, true, false, ℕ, ◌/◌, ◌^◌, ◌≤◌, ◌<◌, length}
+use Rattle.std.specs.Prelude.{◌≡◌, true, false, ℕ, ◌/◌, ◌^◌, ◌≤◌, ◌<◌, length, Result, Err}
+use Rattle.refusal.specs.declared.Refusal.{Refusal}
 use Rattle.store.specs.Store.{Store}
 use Rattle.store.specs.Walk.{resolve}
-use Rattle.store.specs.declared.Answer.{Answer}
-use Rattle.store.specs.declared.Answer.TheVariants.{Refused}
 use Rattle.well_formed.specs.Root.{RootReady}
 use Rattle.unmap.specs.Leave.{leave_pages, CanLeave}
 use Rattle.shrink.specs.Sizes.{pages_to}
@@ -11,9 +10,9 @@ use Rattle.release.specs.Free.{FreeReady}
 use Rattle.process.specs.Parts.{UvmFree, trampoline, trapframe}
 
 -- n is what call P is refused with on s, or 0 where F holds of s
-pub record JudgesParts (P : Store → Answer → Store → Type 0) (F : Store → Type 0) (s : Store) (n : ℕ) : Type 0 where
+pub record JudgesParts (P : Store → Result ℕ Refusal → Store → Type 0) (F : Store → Type 0) (s : Store) (n : ℕ) : Type 0 where
   pub ready : n ≡ 0 → F s
-  pub reason : (n ≡ 0 → ⊥) → P s (Refused n) s
+  pub reason : (n ≡ 0 → ⊥) → P s (Err n) s
 
 -- the pages of size can leave with freeing, and then the root can be freed
 pub record RestReady (root size : ℕ) (s : Store) : Type 0 where

@@ -1,7 +1,7 @@
 // The calls made of parts, after `uvm_free`, `proc_free_pagetable` and `free_shared_user_pagetable` of page_table.rs: all parts are
 // judged, each on what the parts before it would leave, and then all are done.
 ghost use Rattle.std.specs.Prelude.{◌≡◌, false, ◌^◌, ◌≤◌};
-ghost use Rattle.store.specs.Store.{store_of};
+ghost use Rattle.store.specs.Store.{store_of, seen};
 ghost use Rattle.store.specs.declared.Answer.TheVariants.{Done};
 ghost use Rattle.well_formed.specs.Root.{RootReady};
 ghost use Rattle.unmap.specs.Leave.{leave_pages, CanLeave};
@@ -9,7 +9,8 @@ ghost use Rattle.process.specs.Parts.{UvmFree, SharedFree, ProcFree};
 ghost use Rattle.process.specs.PartsReady.{JudgesParts, RestReady, SharedReady, ProcReady, JudgesRest};
 
 use address::{MAXVA, VirtualAddress};
-use store::Answer;
+use refusal::Refusal;
+use store::Store;
 
 const PAGES: usize = 1 << 26;
 
@@ -21,32 +22,26 @@ const TRAPFRAME_PAGE: usize = 0x3FF_FFFE;
 
 // What the last parts, unmapping from 0 to size and freeing, are refused with where the pages from top on have gone before, or 0.
 fn judge_rest(
-    words: &[u64],
-    tmarks: &[u32],
-    bytes: &[u8],
-    fmarks: &[u32],
+    store: &Store,
     root: usize,
     size: u64,
     top: usize,
-) -> u64
-    requires { RootReady (store_of words.now tmarks.now bytes.now fmarks.now) root × (top ≤ 2 ^ 26) }
-    ensures { JudgesRest (store_of words.now tmarks.now bytes.now fmarks.now) root size top result }
+) -> Result<(), Refusal>
+    requires { RootReady (seen store.now) root × (top ≤ 2 ^ 26) }
+    ensures { JudgesRest (seen store.now) root size top result }
 {
     if size > MAXVA {
-        return 6;
+        return Err(Refusal::TooHigh);
     }
     let n = shrink::pages_to(size);
     if n > top {
-        return 11;
+        return Err(Refusal::NotMapped);
     }
-    let no = unmap::judge_leave(words, tmarks, bytes, fmarks, root, 0, n, true);
-    if no != 0 {
-        return no;
+    unmap::judge_leave(store, root, 0, n, true)?;
+    if walk::count_pages(store.words, root, n, top, 1, 1) != 0 {
+        return Err(Refusal::PageLeft);
     }
-    if walk::count_pages(words, root, n, top, 1, 1) != 0 {
-        return 18;
-    }
-    0
+    Ok(())
 }
 
 // The last parts, which cannot fail: the pages from 0 to size leave with freeing, and then the tables of the root are given back.
@@ -78,21 +73,15 @@ fn do_rest(
 
 // The smallest reason that a root cannot be named, or what the last parts are refused with, or 0.
 fn judge_uvm_free(
-    words: &[u64],
-    tmarks: &[u32],
-    bytes: &[u8],
-    fmarks: &[u32],
+    store: &Store,
     root: u64,
     size: u64,
-) -> u64
+) -> Result<(), Refusal>
     ensures { JudgesParts (UvmFree root size) (RestReady root size)
-        (store_of words.now tmarks.now bytes.now fmarks.now) result }
+        (seen store.now) result }
 {
-    let no = well_formed::judge_root(words, tmarks, bytes, fmarks, root);
-    if no != 0 {
-        return no;
-    }
-    judge_rest(words, tmarks, bytes, fmarks, root as usize, size, PAGES)
+    well_formed::judge_root(store, root)?;
+    judge_rest(store, root as usize, size, PAGES)
 }
 
 // Takes the pages from 0 to size out of a root with freeing, then gives back its tables, and answers how many.
@@ -103,16 +92,14 @@ pub fn uvm_free(
     fmarks: &mut [u32],
     root: u64,
     size: u64,
-) -> Answer
+) -> Result<u64, Refusal>
     ensures { UvmFree root size
         (store_of words.old tmarks.old bytes.now fmarks.old) result
         (store_of words.new tmarks.new bytes.now fmarks.new) }
 {
-    let no = judge_uvm_free(words, tmarks, bytes, fmarks, root, size);
-    if no != 0 {
-        return Answer::Refused(no);
-    }
-    Answer::Done(do_rest(words, tmarks, bytes, fmarks, root as usize, size))
+    let store = Store { words, tmarks, bytes, fmarks };
+    judge_uvm_free(&store, root, size)?;
+    Ok(do_rest(words, tmarks, bytes, fmarks, root as usize, size))
 }
 
 // Page p leaves without freeing, which cannot fail.
@@ -133,34 +120,22 @@ fn leave_page(
 
 // What TRAMPOLINE or the last parts are refused with, or 0.
 fn judge_shared(
-    words: &[u64],
-    tmarks: &[u32],
-    bytes: &[u8],
-    fmarks: &[u32],
+    store: &Store,
     root: u64,
     size: u64,
-) -> u64
+) -> Result<(), Refusal>
     ensures { JudgesParts (SharedFree root size) (SharedReady root size)
-        (store_of words.now tmarks.now bytes.now fmarks.now) result }
+        (seen store.now) result }
 {
-    let no = unmap::judge_unmap(
-        words,
-        tmarks,
-        bytes,
-        fmarks,
+    unmap::judge_unmap(
+        store,
         root,
         VirtualAddress(TRAMPOLINE),
         1,
         false,
-    );
-    if no != 0 {
-        return no;
-    }
+    )?;
     judge_rest(
-        words,
-        tmarks,
-        bytes,
-        fmarks,
+        store,
         root as usize,
         size,
         TRAMPOLINE_PAGE,
@@ -175,59 +150,42 @@ pub fn free_shared_user_pagetable(
     fmarks: &mut [u32],
     root: u64,
     size: u64,
-) -> Answer
+) -> Result<u64, Refusal>
     ensures { SharedFree root size
         (store_of words.old tmarks.old bytes.now fmarks.old) result
         (store_of words.new tmarks.new bytes.now fmarks.new) }
 {
-    let no = judge_shared(words, tmarks, bytes, fmarks, root, size);
-    if no != 0 {
-        return Answer::Refused(no);
-    }
+    let store = Store { words, tmarks, bytes, fmarks };
+    judge_shared(&store, root, size)?;
     leave_page(words, tmarks, bytes, fmarks, root as usize, TRAMPOLINE_PAGE);
-    Answer::Done(do_rest(words, tmarks, bytes, fmarks, root as usize, size))
+    Ok(do_rest(words, tmarks, bytes, fmarks, root as usize, size))
 }
 
 // What TRAMPOLINE, TRAPFRAME or the last parts are refused with, or 0.
 fn judge_proc(
-    words: &[u64],
-    tmarks: &[u32],
-    bytes: &[u8],
-    fmarks: &[u32],
+    store: &Store,
     root: u64,
     size: u64,
-) -> u64
+) -> Result<(), Refusal>
     ensures { JudgesParts (ProcFree root size) (ProcReady root size)
-        (store_of words.now tmarks.now bytes.now fmarks.now) result }
+        (seen store.now) result }
 {
-    let no = unmap::judge_unmap(
-        words,
-        tmarks,
-        bytes,
-        fmarks,
+    unmap::judge_unmap(
+        store,
         root,
         VirtualAddress(TRAMPOLINE),
         1,
         false,
-    );
-    if no != 0 {
-        return no;
-    }
+    )?;
     let r = root as usize;
-    let then = unmap::judge_leave(
-        words,
-        tmarks,
-        bytes,
-        fmarks,
+    unmap::judge_leave(
+        store,
         r,
         TRAPFRAME_PAGE,
         TRAPFRAME_PAGE + 1,
         false,
-    );
-    if then != 0 {
-        return then;
-    }
-    judge_rest(words, tmarks, bytes, fmarks, r, size, TRAPFRAME_PAGE)
+    )?;
+    judge_rest(store, r, size, TRAPFRAME_PAGE)
 }
 
 // As `uvm_free`, after TRAMPOLINE and TRAPFRAME have left without freeing.
@@ -238,16 +196,14 @@ pub fn proc_free_pagetable(
     fmarks: &mut [u32],
     root: u64,
     size: u64,
-) -> Answer
+) -> Result<u64, Refusal>
     ensures { ProcFree root size
         (store_of words.old tmarks.old bytes.now fmarks.old) result
         (store_of words.new tmarks.new bytes.now fmarks.new) }
 {
-    let no = judge_proc(words, tmarks, bytes, fmarks, root, size);
-    if no != 0 {
-        return Answer::Refused(no);
-    }
+    let store = Store { words, tmarks, bytes, fmarks };
+    judge_proc(&store, root, size)?;
     leave_page(words, tmarks, bytes, fmarks, root as usize, TRAMPOLINE_PAGE);
     leave_page(words, tmarks, bytes, fmarks, root as usize, TRAPFRAME_PAGE);
-    Answer::Done(do_rest(words, tmarks, bytes, fmarks, root as usize, size))
+    Ok(do_rest(words, tmarks, bytes, fmarks, root as usize, size))
 }

@@ -4,10 +4,10 @@ use mathlib.Core.List.{List}
 use Prim.Native.Nat.{ℕ, ◌*◌, ◌≤◌, ◌<◌}
 use native.Mathlib.Omega.{arith}
 use lib.ListN.{length}
+use Rattle.std.specs.Prelude.{Result, Ok, Err}
+use Rattle.refusal.specs.declared.Refusal.{Refusal}
 use Rattle.store.specs.Store.{Store, store_of}
-use Rattle.store.specs.Outcome.{Judges}
-use Rattle.store.specs.declared.Answer.{Answer}
-use Rattle.store.specs.declared.Answer.TheVariants.{Refused, Done}
+use Rattle.store.specs.Outcome.{Smallest}
 use Rattle.store.proofs.Outcomes.{one_outcome}
 use Rattle.store.proofs.Scans.{in_range}
 use Rattle.release.specs.Free.{FreeReason, FreeReady, released, FreeDone, Free}
@@ -16,18 +16,18 @@ use Rattle.release.proofs.FreeReasons.{clear}
 use Rattle.release.proofs.Released.{frees_root}
 
 module _ (s : Store) (root : ℕ) where
-  pub refuse : (n : ℕ) → Judges (FreeReason s root) (FreeReady s root) n → (n ≡ 0 → ⊥) → Free s root (Refused n) s
+  pub refuse : (n : ℕ) → Smallest (FreeReason s root) n → Free s root (Err n) s
   refuse n j h = (j.reason h, refl)
 
   -- two answers to one call are the same, and so are the stores
-  pub one_free : (a a' : Answer) (t t' : Store) → Free s root a t → Free s root a' t' → (a ≡ a') × (t ≡ t')
+  pub one_free : (a a' : Result ℕ Refusal) (t t' : Store) → Free s root a t → Free s root a' t' → (a ≡ a') × (t ≡ t')
   one_free = one_outcome (FreeReason s root) (FreeDone s root) (λ v v' t t' x y. (x.0 ∙ sym y.0, x.1 ∙ sym y.1)) s
 
   module _ (f : FreeReady s root) where
     pub may_free : (root < length s.tmarks) × (length s.words ≡ 512 * length s.tmarks) × (2 ≤ 2)
     may_free = (in_range s.tmarks root (λ e. omega (arith, f.at_root.is_root)), f.at_root.sized.words, omega arith)
 
-    pub done : (ws ms : List ℕ) (v : ℕ) → trees ws ms v ≡ free_tree 2 root s.words s.tmarks → Free s root (Done v) (store_of ws ms s.bytes s.fmarks)
+    pub done : (ws ms : List ℕ) (v : ℕ) → trees ws ms v ≡ free_tree 2 root s.words s.tmarks → Free s root (Ok v) (store_of ws ms s.bytes s.fmarks)
     unfolding released
     done ws ms v e =
         let q = e ∙ frees_root s f.at_root.sized f.at_root.formed root f.at_root.is_root in

@@ -5,8 +5,8 @@ use Prim.Native.Nat.{ℕ, ◌^◌, ◌≤◌, ◌<◌}
 use native.Mathlib.Omega.{arith}
 use lib.Bits.{bit_and}
 use Rattle.store.specs.Store.{Store}
-use Rattle.store.specs.Outcome.{NoReason, Judges}
-use Rattle.store.proofs.Outcomes.{Just, judges_ok, first_no, then_judged, just_no}
+use Rattle.store.specs.Outcome.{NoReason, Smallest}
+use Rattle.store.proofs.Outcomes.{Just, first_no, then_judged, just_no}
 use Rattle.store.proofs.Scans.{in_range}
 use Rattle.well_formed.specs.Root.{RootReason, RootReady}
 use Rattle.well_formed.proofs.RootReasons.{root_upto, root_clear}
@@ -40,7 +40,7 @@ module _ (s : Store) (root : ℕ) where
   clear f k (at_root h) = root_clear s root f.at_root k h
   clear f k (mapped h) = f.unmapped h
 
-  pub by_root : (n : ℕ) → (n ≡ 0 → ⊥) → Judges (RootReason s root) (RootReady s root) n → Judges R F n
+  pub by_root : (n : ℕ) → Smallest (RootReason s root) n → Smallest R n
   by_root n h q = first_no F split (λ k. at_root) (λ j k a b. omega (arith, root_upto a, b.0)) n h (q.reason h)
 
   -- what the count of pages asks
@@ -48,7 +48,7 @@ module _ (s : Store) (root : ℕ) where
   can_count r = (omega (arith, in_range s.tmarks root (λ e. omega (arith, r.is_root)), r.sized.tables_to), omega arith, omega arith, omega arith)
 
   -- a root with a mapped page
-  pub still_mapped : RootReady s root → Some → Judges R F 18
+  pub still_mapped : RootReady s root → Some → Smallest R 18
   still_mapped r m = then_judged F split eighteen (root_clear s root r) (λ f. f) 18 (just_no 18 Some F (omega arith) m)
 
   -- n pages of the root are mapped
@@ -56,11 +56,11 @@ module _ (s : Store) (root : ℕ) where
     some : (k : ℕ) × (0 ≤ k) × (k < 2 ^ 26) × (bit_and (entry_in s.words root 2 k) 1 ≡ 1) → Some
     some (k, l, h, b) = (k, h, counted_mapped s root k b)
 
-    pub no_18 : (n ≡ 0 → ⊥) → Judges R F 18
+    pub no_18 : Smallest R 18
     no_18 h = still_mapped r (some (one_has (entry_in s.words root 2) 1 1 0 (2 ^ 26) n (omega arith) c (omega arith)))
 
     none : n ≡ 0 → Some → ⊥
     none e (p, h, m) = none_has (entry_in s.words root 2) 1 1 0 (2 ^ 26) n (omega arith) c e p (omega arith) h (mapped_counted s root p m)
 
-    pub all_clear : n ≡ 0 → Judges R F 0
-    all_clear e = judges_ok R F 0 refl (record { at_root = r; unmapped = none e })
+    pub all_clear : n ≡ 0 → F
+    all_clear e = record { at_root = r; unmapped = none e }

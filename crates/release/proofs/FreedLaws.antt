@@ -5,6 +5,7 @@ use mathlib.Core.List.{List}
 use Prim.Native.Nat.{ℕ, zero, suc, ◌+◌, ◌/◌, ◌^◌, ◌<◌}
 use native.Mathlib.Omega.{arith}
 use lib.ListN.{length}
+use Rattle.std.specs.Prelude.{Ok}
 use Rattle.store.specs.Sum.{sum}
 use Rattle.store.specs.Store.{Store, store_of, Sized, mark}
 use Rattle.store.specs.Level.{home, level}
@@ -12,7 +13,6 @@ use Rattle.store.specs.Count.{is_zero, free_tables}
 use Rattle.store.specs.WellFormed.{WellFormed}
 use Rattle.store.specs.Walk.{slot_word, slot, entry_at, resolve}
 use Rattle.store.specs.Owners.{Below, self, step}
-use Rattle.store.specs.declared.Answer.TheVariants.{Done}
 use Rattle.store.proofs.Free.{is_zero_pos}
 use Rattle.store.proofs.Sums.{sum_cong, sum_add}
 use Rattle.store.proofs.Taken.{free_sum}
@@ -167,6 +167,6 @@ module _ (s : Store) (z : Sized s) (c : WellFormed s) (root : ℕ) (rr : mark s.
     }
 
 -- what a success means
-pub free_freed : (s : Store) (root v : ℕ) (s' : Store) → RootReady s root → Free s root (Done v) s' → Freed s root v s'
+pub free_freed : (s : Store) (root v : ℕ) (s' : Store) → RootReady s root → Free s root (Ok v) s' → Freed s root v s'
 free_freed s root v s' r u =
     subst₂ (Freed s root) (sym u.1.0) (sym u.1.1) (freed s r.sized r.formed root r.is_root (λ h. u.0 18 (mapped h)))

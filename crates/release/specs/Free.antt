@@ -1,10 +1,10 @@
 -- `free`: why it is refused, what it answers, and the store afterwards.
-use Rattle.std.specs.Prelude.{◌≡◌, Bool, true, false, cond, List, [], ◌∷◌, ℕ, zero, suc, ◌/◌, ◌^◌, ◌<◌, eqb, ltb, length}
+use Rattle.std.specs.Prelude.{◌≡◌, Bool, true, false, cond, List, [], ◌∷◌, ℕ, zero, suc, ◌/◌, ◌^◌, ◌<◌, eqb, ltb, length, Result}
+use Rattle.refusal.specs.declared.Refusal.{Refusal}
 use Rattle.store.specs.Sum.{sum}
 use Rattle.store.specs.Store.{Store, mark}
 use Rattle.store.specs.Level.{home}
 use Rattle.store.specs.Outcome.{Outcome}
-use Rattle.store.specs.declared.Answer.{Answer}
 use Rattle.well_formed.specs.Root.{RootReason, RootReady}
 use Rattle.walk.specs.Mapped.{Mapped}
 
@@ -60,5 +60,5 @@ tables_of s r = many (of_root s r) (length s.tmarks)
 abbrev pub FreeDone : Store → ℕ → ℕ → Store → Type 0
 FreeDone s root v s' = (v ≡ tables_of s root) × (s' ≡ released s root)
 
-abbrev pub Free : Store → ℕ → Answer → Store → Type 0
+abbrev pub Free : Store → ℕ → Result ℕ Refusal → Store → Type 0
 Free s root r s' = Outcome (FreeReason s root) (FreeDone s root) s r s'

@@ -1,29 +1,27 @@
 // The tables of a root are given back, the tables below a table first: judged whole, then done.
 ghost use Rattle.std.specs.Prelude.{◌≡◌, ◌*◌, ◌≤◌, ◌<◌, length, set};
 ghost use Rattle.store.specs.Outcome.{Judges};
-ghost use Rattle.store.specs.Store.{store_of};
+ghost use Rattle.store.specs.Store.{store_of, seen};
 ghost use Rattle.release.specs.Free.{FreeReason, FreeReady, Free};
 ghost use Rattle.release.specs.FreeTree.{trees, zeroed, free_tree};
 
-use store::Answer;
+use refusal::Refusal;
+use store::Store;
 
 const PAGES: usize = 1 << 26;
 
 // The smallest reason not to free a root, or 0.
-fn judge_free(words: &[u64], tmarks: &[u32], bytes: &[u8], fmarks: &[u32], root: u64) -> u64
+fn judge_free(store: &Store, root: u64) -> Result<(), Refusal>
     ensures { Judges
-        (FreeReason (store_of words.now tmarks.now bytes.now fmarks.now) root)
-        (FreeReady (store_of words.now tmarks.now bytes.now fmarks.now) root)
+        (FreeReason (seen store.now) root)
+        (FreeReady (seen store.now) root)
         result }
 {
-    let no = well_formed::judge_root(words, tmarks, bytes, fmarks, root);
-    if no != 0 {
-        return no;
+    well_formed::judge_root(store, root)?;
+    if walk::count_pages(store.words, root as usize, 0, PAGES, 1, 1) != 0 {
+        return Err(Refusal::PageLeft);
     }
-    if walk::count_pages(words, root as usize, 0, PAGES, 1, 1) != 0 {
-        return 18;
-    }
-    0
+    Ok(())
 }
 
 // Table t becomes zero and free.
@@ -70,14 +68,12 @@ pub fn free(
     bytes: &[u8],
     fmarks: &[u32],
     root: u64,
-) -> Answer
+) -> Result<u64, Refusal>
     ensures { Free
         (store_of words.old tmarks.old bytes.now fmarks.now) root result
         (store_of words.new tmarks.new bytes.now fmarks.now) }
 {
-    let no = judge_free(words, tmarks, bytes, fmarks, root);
-    if no != 0 {
-        return Answer::Refused(no);
-    }
-    Answer::Done(free_table(words, tmarks, root as usize, 2) as u64)
+    let store = Store { words, tmarks, bytes, fmarks };
+    judge_free(&store, root)?;
+    Ok(free_table(words, tmarks, root as usize, 2) as u64)
 }

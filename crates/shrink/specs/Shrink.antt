@@ -1,8 +1,8 @@
 -- `uvm_dealloc`: why it is refused, what it answers, and the store afterwards.
-use Rattle.std.specs.Prelude.{◌≡◌, true, cond, ℕ, ◌-◌, leb}
+use Rattle.std.specs.Prelude.{◌≡◌, true, cond, ℕ, ◌-◌, leb, Result}
+use Rattle.refusal.specs.declared.Refusal.{Refusal}
 use Rattle.store.specs.Store.{Store}
 use Rattle.store.specs.Outcome.{Outcome}
-use Rattle.store.specs.declared.Answer.{Answer}
 use Rattle.unmap.specs.Leave.{LeaveReason, LeaveReady, leave_pages}
 use Rattle.shrink.specs.Sizes.{pages_to, SizeReason, SizeReady}
 
@@ -24,5 +24,5 @@ pub record ShrinkReady (s : Store) (root old new : ℕ) : Type 0 where
 abbrev pub ShrinkDone : Store → ℕ → ℕ → ℕ → ℕ → Store → Type 0
 ShrinkDone s root old new v s' = (v ≡ cond (leb old new) old new) × (s' ≡ leave_pages s root (pages_to new) (lost old new) true)
 
-abbrev pub Shrink : Store → ℕ → ℕ → ℕ → Answer → Store → Type 0
+abbrev pub Shrink : Store → ℕ → ℕ → ℕ → Result ℕ Refusal → Store → Type 0
 Shrink s root old new r s' = Outcome (ShrinkReason s root old new) (ShrinkDone s root old new) s r s'

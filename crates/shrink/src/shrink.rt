@@ -1,39 +1,31 @@
 // Giving up the pages at the end, after `uvm_dealloc` of page_table.rs: judged whole, then done.
 ghost use Rattle.store.specs.Outcome.{Judges};
-ghost use Rattle.store.specs.Store.{store_of};
+ghost use Rattle.store.specs.Store.{store_of, seen};
 ghost use Rattle.shrink.specs.Shrink.{ShrinkReason, ShrinkReady, Shrink};
 
 use super::sizes;
-use store::Answer;
+use refusal::Refusal;
+use store::Store;
 
 fn judge_shrink(
-    words: &[u64],
-    tmarks: &[u32],
-    bytes: &[u8],
-    fmarks: &[u32],
+    store: &Store,
     root: u64,
     old: u64,
     new: u64,
-) -> u64
+) -> Result<(), Refusal>
     ensures { Judges
-        (ShrinkReason (store_of words.now tmarks.now bytes.now fmarks.now) root old new)
-        (ShrinkReady (store_of words.now tmarks.now bytes.now fmarks.now) root old new)
+        (ShrinkReason (seen store.now) root old new)
+        (ShrinkReady (seen store.now) root old new)
         result }
 {
-    let no = sizes::judge_sizes(words, tmarks, bytes, fmarks, root, old, new);
-    if no != 0 {
-        return no;
-    }
+    sizes::judge_sizes(store, root, old, new)?;
     let first = sizes::pages_to(new);
     let end = sizes::pages_to(old);
     if end <= first {
-        return 0;
+        return Ok(());
     }
     unmap::judge_leave(
-        words,
-        tmarks,
-        bytes,
-        fmarks,
+        store,
         root as usize,
         first,
         end,
@@ -50,15 +42,13 @@ pub fn uvm_dealloc(
     root: u64,
     old: u64,
     new: u64,
-) -> Answer
+) -> Result<u64, Refusal>
     ensures { Shrink
         (store_of words.old tmarks.now bytes.now fmarks.old) root old new result
         (store_of words.new tmarks.now bytes.now fmarks.new) }
 {
-    let no = judge_shrink(words, tmarks, bytes, fmarks, root, old, new);
-    if no != 0 {
-        return Answer::Refused(no);
-    }
+    let store = Store { words, tmarks, bytes, fmarks };
+    judge_shrink(&store, root, old, new)?;
     let first = sizes::pages_to(new);
     let end = sizes::pages_to(old);
     if first < end {
@@ -72,7 +62,7 @@ pub fn uvm_dealloc(
             end - first,
             true,
         );
-        return Answer::Done(sizes::shrunk(old, new));
+        return Ok(sizes::shrunk(old, new));
     }
-    Answer::Done(sizes::shrunk(old, new))
+    Ok(sizes::shrunk(old, new))
 }

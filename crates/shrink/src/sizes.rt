@@ -1,37 +1,33 @@
 // Sizes in bytes, the pages that they take, and the judge of two of them.
 ghost use Rattle.std.specs.Prelude.{◌≡◌, cond, ◌^◌, ◌≤◌, leb, ltb};
 ghost use Rattle.store.specs.Outcome.{Judges};
-ghost use Rattle.store.specs.Store.{store_of};
+ghost use Rattle.store.specs.Store.{seen};
 ghost use Rattle.shrink.specs.Sizes.{pages_to, SizeReason, SizeReady};
 
 use address::MAXVA;
+use refusal::Refusal;
+use store::Store;
 
 // 1, 2, 3 or 6, or 0.
 pub fn judge_sizes(
-    words: &[u64],
-    tmarks: &[u32],
-    bytes: &[u8],
-    fmarks: &[u32],
+    store: &Store,
     root: u64,
     old: u64,
     new: u64,
-) -> u64
+) -> Result<(), Refusal>
     ensures { Judges
-        (SizeReason (store_of words.now tmarks.now bytes.now fmarks.now) root old new)
-        (SizeReady (store_of words.now tmarks.now bytes.now fmarks.now) root old new)
+        (SizeReason (seen store.now) root old new)
+        (SizeReady (seen store.now) root old new)
         result }
 {
-    let no = well_formed::judge_root(words, tmarks, bytes, fmarks, root);
-    if no != 0 {
-        return no;
-    }
+    well_formed::judge_root(store, root)?;
     if old > MAXVA {
-        return 6;
+        return Err(Refusal::TooHigh);
     }
     if new > MAXVA {
-        return 6;
+        return Err(Refusal::TooHigh);
     }
-    0
+    Ok(())
 }
 
 // How many pages size bytes take, rounded up.

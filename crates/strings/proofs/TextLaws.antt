@@ -9,9 +9,10 @@ use lib.Dec.{ltb}
 use borrow.Author.Tests.{ltb-true, ltb-false}
 use lib.ListN.{length, get_or, take, drop, length-append, length-drop, get_or-append}
 use lib.Seq.{length-take-le, get_or-append-add, get_or-drop}
+use Rattle.std.specs.Prelude.{Result, Err}
+use Rattle.refusal.specs.declared.Refusal.{Refusal}
 use Rattle.store.specs.Store.{Store}
-use Rattle.store.specs.Outcome.{answer_said, Judges}
-use Rattle.store.specs.declared.Answer.{Answer}
+use Rattle.store.specs.Outcome.{answer_said, Smallest}
 use Rattle.store.specs.declared.Answer.TheVariants as answer
 use Rattle.store.proofs.Outcomes.{one_outcome}
 use Rattle.well_formed.specs.Root.{RootReason, RootReady}
@@ -26,11 +27,11 @@ use Rattle.strings.proofs.StrLaws.{zero_met_lem, str_le, str_before, str_zero}
 use Rattle.strings.proofs.TextReasons.{by_root, str_pages}
 
 module _ (s : Store) (root va : ℕ) (dst : List ℕ) where
-  pub refuse_root : (k : ℕ) → Judges (RootReason s root) (RootReady s root) k → (k ≡ 0 → ⊥) → Str s root va dst (Refused k) dst
+  pub refuse_root : (k : ℕ) → Smallest (RootReason s root) k → (k ≡ 0 → ⊥) → Str s root va dst (Err k) dst
   refuse_root k j h = (by_root s root va (length dst) k (j.reason h), refl)
 
   module _ (k n : ℕ) (met : Bool) (m : Measures s root va (length dst) k n met) where
-    pub refuse_way : (k ≡ 0 → ⊥) → Str s root va dst (Refused k) dst
+    pub refuse_way : (k ≡ 0 → ⊥) → Str s root va dst (Err k) dst
     refuse_way h = (m.refused h, refl)
 
     module _ (e : k ≡ 0) where
@@ -54,11 +55,11 @@ module _ (s : Store) (root va : ℕ) (dst : List ℕ) where
   -- two answers to one call are the same, and so are the buffers
   pub one_str : (a a' : StrAnswer) (t t' : List ℕ) → Str s root va dst a t → Str s root va dst a' t' → (a ≡ a') × (t ≡ t')
   unfolding answer_said
-  one_str (Refused m) (Refused n) t t' p q =
+  one_str (Err m) (Err n) t t' p q =
       let e = one_outcome (StrReason s root va (length dst)) (λ _ _. ⊥) (λ _ _ _ _ x _. absurd x) dst (answer.Refused m) (answer.Refused n) t t' p q in
-      (ap (λ (a : Answer). Refused (answer_said a).number) e.0, e.1)
-  one_str (Refused m) (Read n x) t t' p q = absurd (q.0 m p.0.applies)
-  one_str (Read n x) (Refused m) t t' p q = absurd (p.0 m q.0.applies)
+      (ap (λ (a : Result ℕ Refusal). Refused (answer_said a).number) e.0, e.1)
+  one_str (Err m) (Read n x) t t' p q = absurd (q.0 m p.0.applies)
+  one_str (Read n x) (Err m) t t' p q = absurd (p.0 m q.0.applies)
   one_str (Read n x) (Read n' x') t t' p q =
       let e : n ≡ n' = p.1.count ∙ sym q.1.count in
       (ap₂ Read e (p.1.zero ∙ sym q.1.zero), p.1.buffer ∙ ap (λ (k : ℕ). bytes_at s root va k ++ drop k dst) e ∙ sym q.1.buffer)

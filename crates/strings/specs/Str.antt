@@ -1,5 +1,5 @@
 -- `copy_in_str`: reading goes on up to the first zero byte or to the end of the buffer, and looks at no page behind that.
-use Rattle.std.specs.Prelude.{◌≡◌, Bool, true, false, cond, List, [], ◌∷◌, ◌++◌, ℕ, zero, suc, ◌+◌, ◌<◌, eqb, length, drop}
+use Rattle.std.specs.Prelude.{◌≡◌, Bool, true, false, cond, List, [], ◌∷◌, ◌++◌, ℕ, zero, suc, ◌+◌, ◌<◌, eqb, length, drop, Err}
 use Rattle.address.specs.Answer.{Said, refused}
 use Rattle.store.specs.Store.{Store}
 use Rattle.store.specs.Outcome.{Smallest, NoReason}
@@ -12,7 +12,7 @@ use Rattle.copies.specs.Needed.{PageReason, Needs}
 -- what the answer of `copy_in_str` says on paper: the bytes written, and 1 where a zero was met and 0 where not
 unfoldable pub str_said : StrAnswer → Said
 str_said (Read n met) = record { number = 0; values = n ∷ cond met 1 0 ∷ [] }
-str_said (Refused n) = refused n
+str_said (Err n) = refused n
 
 -- the byte at address a can be read and is not zero
 pub record Passed (s : Store) (r a : ℕ) : Type 0 where
@@ -48,5 +48,5 @@ pub record Measures (s : Store) (root va max no n : ℕ) (met : Bool) : Type 0 w
 
 -- the store is lent for reading
 abbrev pub Str : Store → ℕ → ℕ → List ℕ → StrAnswer → List ℕ → Type 0
-Str s root va dst (Refused k) dst' = Smallest (StrReason s root va (length dst)) k × (dst' ≡ dst)
+Str s root va dst (Err k) dst' = Smallest (StrReason s root va (length dst)) k × (dst' ≡ dst)
 Str s root va dst (Read n met) dst' = NoReason (StrReason s root va (length dst)) × StrDone s root va dst n met dst'

@@ -2,12 +2,13 @@
 ghost use Rattle.std.specs.Prelude.{◌≡◌, ◌≤◌, ◌<◌, length};
 ghost use Rattle.store.specs.Count.{lowest};
 ghost use Rattle.store.specs.Says.{Says};
-ghost use Rattle.store.specs.Store.{store_of};
+ghost use Rattle.store.specs.Store.{seen};
 ghost use Rattle.well_formed.specs.Root.{RootReady};
 ghost use Rattle.strings.specs.Str.{Str, Measures};
 
 use super::StrAnswer;
 use address::VirtualAddress;
+use store::Store;
 
 // What lies on the way: the number of a refusal, or 0, how many bytes come before the zero or the end, and whether a zero was met.
 #[derive(Drop)]
@@ -78,21 +79,18 @@ fn first_zero(part: &[u8]) -> usize
 
 // Follows at most max bytes from va on, page by page, up to the first zero.
 fn measure(
-    words: &[u64],
-    tmarks: &[u32],
-    bytes: &[u8],
-    fmarks: &[u32],
+    store: &Store,
     root: usize,
     va: u64,
     max: usize,
 ) -> Way
-    requires { RootReady (store_of words.now tmarks.now bytes.now fmarks.now) root }
-    ensures { Measures (store_of words.now tmarks.now bytes.now fmarks.now) root va max result.no result.n result.met }
+    requires { RootReady (seen store.now) root }
+    ensures { Measures (seen store.now) root va max result.no result.n result.met }
 {
     let mut i = 0;
     loop {
         let a = va + (i as u64);
-        let no = copies::judge_page(words, tmarks, bytes, fmarks, root, a);
+        let no = copies::judge_page(store, root, a);
         if no != 0 {
             return Way {
                 no: no,
@@ -101,8 +99,8 @@ fn measure(
             };
         }
         let k = walk::lesser(4096 - (a % 4096) as usize, max - i);
-        let from = copies::place(words, root, a);
-        let z = first_zero(&bytes[from..from + k]);
+        let from = copies::place(store.words, root, a);
+        let z = first_zero(&store.bytes[from..from + k]);
         if z < k {
             return Way {
                 no: 0,
@@ -123,26 +121,23 @@ fn measure(
 
 // The bytes from va on, up to the first zero, go to the buffer; behind the zero or the buffer's end nothing is looked at.
 pub fn copy_in_str(
-    words: &[u64],
-    tmarks: &[u32],
-    bytes: &[u8],
-    fmarks: &[u32],
+    store: &Store,
     root: u64,
     va: VirtualAddress,
     dst: &mut [u8],
 ) -> StrAnswer
-    ensures { Str (store_of words.now tmarks.now bytes.now fmarks.now) root va.0 dst.old result dst.new }
+    ensures { Str (seen store.now) root va.0 dst.old result dst.new }
 {
-    let no = well_formed::judge_root(words, tmarks, bytes, fmarks, root);
+    let no = well_formed::judge_root(store, root);
     if no != 0 {
         return StrAnswer::Refused(no);
     }
     let r = root as usize;
-    let way = measure(words, tmarks, bytes, fmarks, r, va.0, dst.len());
+    let way = measure(store, r, va.0, dst.len());
     if way.no != 0 {
         return StrAnswer::Refused(way.no);
     }
     let n = way.n;
-    copies::read_bytes(words, tmarks, bytes, fmarks, r, va.0, &mut dst[..n]);
+    copies::read_bytes(store, r, va.0, &mut dst[..n]);
     StrAnswer::Read(n as u64, way.met)
 }

@@ -4,13 +4,13 @@ use mathlib.Core.Logic.{by_cases}
 use Prim.Native.Nat.{ℕ, ◌/◌, ◌%◌, ◌^◌, ◌≤◌, ◌<◌}
 use native.Mathlib.Decide.{ℕ_discrete, dec_lt}
 use native.Mathlib.Omega.{arith}
+use Rattle.std.specs.Prelude.{Ok}
 use Rattle.page_table_entry.specs.Layout.{bit_u}
 use Rattle.page_table_entry.specs.Change.{with_bit}
 use Rattle.store.specs.Store.{Store, Sized, mark, frame_no}
 use Rattle.store.specs.Level.{home}
 use Rattle.store.specs.WellFormed.{WellFormed}
 use Rattle.store.specs.Walk.{slot_word, slot, entry_at, resolve}
-use Rattle.store.specs.declared.Answer.TheVariants.{Done}
 use Rattle.store.proofs.Tree.{Tree, TreeOf, top, tree_of, well_formed_of}
 use Rattle.store.proofs.Walk.{top_of}
 use Rattle.walk.proofs.Spans.{Upd}
@@ -63,7 +63,7 @@ module _ (s : Store) (z : Sized s) (c : WellFormed s) (r p : ℕ) (rr : mark s.t
       }
 
 -- what a success means, for a page below 2^38 of a root
-pub clear_cleared : (s : Store) (root va v : ℕ) (s' : Store) → Sized s → WellFormed s → mark s.tmarks root ≡ 1 → va < 2 ^ 38 → Clear s root va (Done v) s' → Cleared s root (va / 4096) s'
+pub clear_cleared : (s : Store) (root va v : ℕ) (s' : Store) → Sized s → WellFormed s → mark s.tmarks root ≡ 1 → va < 2 ^ 38 → Clear s root va (Ok v) s' → Cleared s root (va / 4096) s'
 clear_cleared s root va v s' z c rr h u =
     let t : 0 < entry_at s root 1 (va / 4096 / 512) = by_cases (dec_lt 0 (entry_at s root 1 (va / 4096 / 512))) (λ y. y) (λ n. absurd (u.0 11 (no_table (omega arith)))) in
     subst (Cleared s root (va / 4096)) (sym u.1.1) (page_cleared s z c root (va / 4096) rr (omega arith) t)

@@ -6,8 +6,7 @@ use native.Mathlib.Omega.{arith}
 use Rattle.page_table_entry.specs.Layout.{flags}
 use Rattle.store.specs.Store.{Store}
 use Rattle.store.specs.Walk.{resolve}
-use Rattle.store.specs.Outcome.{Judges}
-use Rattle.store.proofs.Outcomes.{judges_no, judges_ok}
+use Rattle.store.specs.Outcome.{Smallest}
 use Rattle.walk.specs.Mapped.{Mapped}
 use Rattle.walk.specs.Missing.{entry_in}
 use Rattle.walk.specs.Ranges.{PagesAlike}
@@ -53,27 +52,26 @@ module _ (s : Store) (r p e : ℕ) (a : Asked s r p (e - p)) (l : p ≤ e) (free
   least n f m b k q (unmapped i x h) = h (m q i x)
   least n f m b k q (bare i x h) = b q i x h
 
-  pub no_10 : MeetsPool s r p (e - p) freeing → Judges R F 10
-  no_10 h = judges_no R F 10 (omega arith) (record { applies = pooled h; least = least 10 (λ q. absurd (omega arith)) (λ q. absurd (omega arith)) (λ q. absurd (omega arith)) })
+  pub no_10 : MeetsPool s r p (e - p) freeing → Smallest R 10
+  no_10 h = record { applies = pooled h; least = least 10 (λ q. absurd (omega arith)) (λ q. absurd (omega arith)) (λ q. absurd (omega arith)) }
 
   module _ (f : MeetsPool s r p (e - p) freeing → ⊥) (c : ℕ) (count : PagesAlike s.words r p e 1 1 c) where
-    pub no_11 : c < e - p → Judges R F 11
+    pub no_11 : c < e - p → Smallest R 11
     no_11 h =
         let q = one_lacks g 1 1 p e c l count h in
         let x = after (λ (k : ℕ). Mapped s r k → ⊥) q.0 q.1 q.2 (λ m. q.3 (mapped_counted s r q.0 m)) in
-        judges_no R F 11 (omega arith) (record { applies = unmapped x.0 x.1 x.2; least = least 11 (λ _. f) (λ q. absurd (omega arith)) (λ q. absurd (omega arith)) })
+        record { applies = unmapped x.0 x.1 x.2; least = least 11 (λ _. f) (λ q. absurd (omega arith)) (λ q. absurd (omega arith)) }
 
     module _ (h : e - p ≤ c) (d : ℕ) (bares : PagesAlike s.words r p e 1023 1 d) where
       mapped : (i : ℕ) → i < e - p → Mapped s r (p + i)
       mapped i x = counted_mapped s r (p + i) (all_have g 1 1 p e c l count h (p + i) (omega arith) (omega arith))
 
-      pub no_13 : (d ≡ 0 → ⊥) → Judges R F 13
+      pub no_13 : (d ≡ 0 → ⊥) → Smallest R 13
       no_13 n =
           let q = one_has g 1023 1 p e d l bares (omega arith) in
           let x = after (λ (k : ℕ). flags (resolve s r k) ≡ 1) q.0 q.1 q.2 (counted_bare s a.at_root.sized r q.0 q.3) in
-          judges_no R F 13 (omega arith) (record { applies = bare x.0 x.1 x.2; least = least 13 (λ _. f) (λ _. mapped) (λ q. absurd (omega arith)) })
+          record { applies = bare x.0 x.1 x.2; least = least 13 (λ _. f) (λ _. mapped) (λ q. absurd (omega arith)) }
 
-      pub all_ready : d ≡ 0 → Judges R F 0
+      pub all_ready : d ≡ 0 → F
       all_ready z =
-          judges_ok R F 0 refl
-          (record { foreign = f; mapped = mapped; full = λ i x b. none_has g 1023 1 p e d l bares z (p + i) (omega arith) (omega arith) (bare_counted s a.at_root.sized r (p + i) b) })
+          record { foreign = f; mapped = mapped; full = λ i x b. none_has g 1023 1 p e d l bares z (p + i) (omega arith) (omega arith) (bare_counted s a.at_root.sized r (p + i) b) }

@@ -10,8 +10,7 @@ use Rattle.address.specs.Field.{bit}
 use Rattle.page_table_entry.specs.Layout.{bit_v}
 use Rattle.store.specs.Store.{Store}
 use Rattle.store.specs.Walk.{resolve}
-use Rattle.store.specs.Outcome.{Smallest, NoReason, Judges}
-use Rattle.store.proofs.Outcomes.{judges_no, judges_ok}
+use Rattle.store.specs.Outcome.{Smallest, NoReason}
 use Rattle.well_formed.specs.Root.{RootReason, RootReady}
 use Rattle.well_formed.proofs.RootReasons.{root_clear, root_first}
 use Rattle.unmap.specs.Leave.{LeaveReason, pooled, unmapped, bare, LeaveReady}
@@ -64,8 +63,8 @@ module _ (s : Store) (root va n : ℕ) (freeing : Bool) where
   pub root_least : (j : ℕ) → Smallest (RootReason s root) j → Smallest R j
   root_least = root_first s root (λ k. at_root) split
 
-  pub by_root : (j : ℕ) → (j ≡ 0 → ⊥) → Judges (RootReason s root) (RootReady s root) j → Judges R F j
-  by_root j h q = judges_no R F j h (root_least j (q.reason h))
+  pub by_root : (j : ℕ) → (j ≡ 0 → ⊥) → Smallest (RootReason s root) j → Smallest R j
+  by_root j h q = (root_least j (q.reason h))
 
   module _ (r : RootReady s root) where
     least : (j : ℕ) → (6 < j → TooHigh (va / 4096) n → ⊥) → (7 < j → va % 4096 ≡ 0) → ((k : ℕ) → k < j → L k → ⊥) → (k : ℕ) → k < j → R k → ⊥
@@ -78,22 +77,22 @@ module _ (s : Store) (root va n : ℕ) (freeing : Bool) where
     early : (j : ℕ) → j ≤ 10 → (k : ℕ) → k < j → L k → ⊥
     early j h k l q = omega (arith, leave_range q)
 
-    pub no_6 : TooHigh (va / 4096) n → Judges R F 6
-    no_6 h = judges_no R F 6 (omega arith) (record { applies = too_high h; least = least 6 (λ l. absurd (omega arith)) (λ l. absurd (omega arith)) (early 6 (omega arith)) })
+    pub no_6 : TooHigh (va / 4096) n → Smallest R 6
+    no_6 h = record { applies = too_high h; least = least 6 (λ l. absurd (omega arith)) (λ l. absurd (omega arith)) (early 6 (omega arith)) }
 
     module _ (t : TooHigh (va / 4096) n → ⊥) where
-      pub no_7 : (va % 4096 ≡ 0 → ⊥) → Judges R F 7
-      no_7 h = judges_no R F 7 (omega arith) (record { applies = unaligned h; least = least 7 (λ l. t) (λ l. absurd (omega arith)) (early 7 (omega arith)) })
+      pub no_7 : (va % 4096 ≡ 0 → ⊥) → Smallest R 7
+      no_7 h = record { applies = unaligned h; least = least 7 (λ l. t) (λ l. absurd (omega arith)) (early 7 (omega arith)) }
 
       module _ (a : va % 4096 ≡ 0) where
         ready : LeaveReady s root (va / 4096) n freeing → F
         ready f = record { at_root = r; below = t; aligned = a; pages = f }
 
-        pub nothing : n ≡ 0 → Judges R F 0
+        pub nothing : n ≡ 0 → F
         nothing h =
-            judges_ok R F 0 refl (ready (leave_none s root (va / 4096) n freeing h))
+            (ready (leave_none s root (va / 4096) n freeing h))
 
-        pub by_pages : (j : ℕ) → Judges L (LeaveReady s root (va / 4096) n freeing) j → Judges R F j
+        pub by_pages : (j : ℕ) → Smallest L j → Smallest R j
         by_pages j q = record {
           ready = λ e. ready (q.ready e);
           reason = λ h. let m = q.reason h in record { applies = pages m.applies; least = least j (λ l. t) (λ l. a) m.least };

@@ -1,8 +1,8 @@
 -- `uvm_unmap`: why it is refused, and the store afterwards.
-use Rattle.std.specs.Prelude.{◌≡◌, Bool, ℕ, ◌+◌, ◌/◌, ◌%◌, ◌^◌, ◌≤◌, ◌<◌}
+use Rattle.std.specs.Prelude.{◌≡◌, Bool, ℕ, ◌+◌, ◌/◌, ◌%◌, ◌^◌, ◌≤◌, ◌<◌, Result}
+use Rattle.refusal.specs.declared.Refusal.{Refusal}
 use Rattle.store.specs.Store.{Store}
 use Rattle.store.specs.Outcome.{Outcome}
-use Rattle.store.specs.declared.Answer.{Answer}
 use Rattle.well_formed.specs.Root.{RootReason, RootReady}
 use Rattle.unmap.specs.Leave.{LeaveReason, LeaveReady, leave_pages}
 
@@ -28,5 +28,5 @@ pub record UnmapReady (s : Store) (root va n : ℕ) (freeing : Bool) : Type 0 wh
 abbrev pub UnmapDone : Store → ℕ → ℕ → ℕ → Bool → ℕ → Store → Type 0
 UnmapDone s root va n freeing v s' = (v ≡ 0) × (s' ≡ leave_pages s root (va / 4096) n freeing)
 
-abbrev pub Unmap : Store → ℕ → ℕ → ℕ → Bool → Answer → Store → Type 0
+abbrev pub Unmap : Store → ℕ → ℕ → ℕ → Bool → Result ℕ Refusal → Store → Type 0
 Unmap s root va n freeing r s' = Outcome (UnmapReason s root va n freeing) (UnmapDone s root va n freeing) s r s'

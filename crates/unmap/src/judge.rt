@@ -2,12 +2,14 @@
 ghost use Rattle.std.specs.Prelude.{◌-◌, ◌^◌, ◌≤◌, ◌<◌};
 ghost use Rattle.store.specs.Outcome.{Judges};
 ghost use Rattle.store.specs.Says.{Says};
-ghost use Rattle.store.specs.Store.{store_of};
+ghost use Rattle.store.specs.Store.{seen};
 ghost use Rattle.well_formed.specs.Root.{Asked};
 ghost use Rattle.unmap.specs.Leave.{MeetsPool, LeaveReason, LeaveReady};
 ghost use Rattle.unmap.specs.Unmap.{TooHigh, UnmapReason, UnmapReady};
 
 use address::VirtualAddress;
+use refusal::Refusal;
+use store::Store;
 
 const PAGES: u64 = 1 << 26;
 
@@ -18,23 +20,20 @@ pub const WINDOW: u64 = 0x4000_0000;
 
 // Whether, without freeing, one of the pages from first up to end has a pool frame.
 fn meets_pool(
-    words: &[u64],
-    tmarks: &[u32],
-    bytes: &[u8],
-    fmarks: &[u32],
+    store: &Store,
     root: usize,
     first: usize,
     end: usize,
     freeing: bool,
 ) -> bool
-    requires { Asked (store_of words.now tmarks.now bytes.now fmarks.now) root first (end - first) × (first ≤ end) }
+    requires { Asked (seen store.now) root first (end - first) × (first ≤ end) }
     ensures { Says result
-        (MeetsPool (store_of words.now tmarks.now bytes.now fmarks.now) root first (end - first) freeing) }
+        (MeetsPool (seen store.now) root first (end - first) freeing) }
 {
     if freeing {
         return false;
     }
-    if walk::count_pages(words, root, first, end, FRAME_PART, WINDOW) == 0 {
+    if walk::count_pages(store.words, root, first, end, FRAME_PART, WINDOW) == 0 {
         return false;
     }
     true
@@ -42,31 +41,28 @@ fn meets_pool(
 
 // 10, 11 or 13, or 0, for the pages from first up to end.
 pub fn judge_leave(
-    words: &[u64],
-    tmarks: &[u32],
-    bytes: &[u8],
-    fmarks: &[u32],
+    store: &Store,
     root: usize,
     first: usize,
     end: usize,
     freeing: bool,
-) -> u64
-    requires { Asked (store_of words.now tmarks.now bytes.now fmarks.now) root first (end - first) × (first ≤ end) }
+) -> Result<(), Refusal>
+    requires { Asked (seen store.now) root first (end - first) × (first ≤ end) }
     ensures { Judges
-        (LeaveReason (store_of words.now tmarks.now bytes.now fmarks.now) root first (end - first) freeing)
-        (LeaveReady (store_of words.now tmarks.now bytes.now fmarks.now) root first (end - first) freeing)
+        (LeaveReason (seen store.now) root first (end - first) freeing)
+        (LeaveReady (seen store.now) root first (end - first) freeing)
         result }
 {
-    if meets_pool(words, tmarks, bytes, fmarks, root, first, end, freeing) {
-        return 10;
+    if meets_pool(store, root, first, end, freeing) {
+        return Err(Refusal::HeldWindow);
     }
-    if walk::count_pages(words, root, first, end, 1, 1) < end - first {
-        return 11;
+    if walk::count_pages(store.words, root, first, end, 1, 1) < end - first {
+        return Err(Refusal::NotMapped);
     }
-    if walk::count_pages(words, root, first, end, 1023, 1) != 0 {
-        return 13;
+    if walk::count_pages(store.words, root, first, end, 1023, 1) != 0 {
+        return Err(Refusal::OnlyValid);
     }
-    0
+    Ok(())
 }
 
 // Whether one of n pages from first on lies at or above 2^38.
@@ -87,39 +83,30 @@ fn too_high(first: u64, n: u64) -> bool
 }
 
 pub fn judge_unmap(
-    words: &[u64],
-    tmarks: &[u32],
-    bytes: &[u8],
-    fmarks: &[u32],
+    store: &Store,
     root: u64,
     va: VirtualAddress,
     n: u64,
     freeing: bool,
-) -> u64
+) -> Result<(), Refusal>
     ensures { Judges
-        (UnmapReason (store_of words.now tmarks.now bytes.now fmarks.now) root va.0 n freeing)
-        (UnmapReady (store_of words.now tmarks.now bytes.now fmarks.now) root va.0 n freeing)
+        (UnmapReason (seen store.now) root va.0 n freeing)
+        (UnmapReady (seen store.now) root va.0 n freeing)
         result }
 {
-    let no = well_formed::judge_root(words, tmarks, bytes, fmarks, root);
-    if no != 0 {
-        return no;
-    }
+    well_formed::judge_root(store, root)?;
     let first = va.0 / 4096;
     if too_high(first, n) {
-        return 6;
+        return Err(Refusal::TooHigh);
     }
     if va.0 % 4096 != 0 {
-        return 7;
+        return Err(Refusal::NotAligned);
     }
     if n == 0 {
-        return 0;
+        return Ok(());
     }
     judge_leave(
-        words,
-        tmarks,
-        bytes,
-        fmarks,
+        store,
         root as usize,
         first as usize,
         (first + n) as usize,

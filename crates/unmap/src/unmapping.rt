@@ -6,7 +6,8 @@ ghost use Rattle.unmap.specs.Clear.{Clear};
 use super::{judge, leave};
 use address::{MAXVA, VirtualAddress};
 use page_table_entry::PageTableEntry;
-use store::Answer;
+use refusal::Refusal;
+use store::Store;
 
 // Takes n pages, from that of va on, out of a root. With freeing their pool frames are given back; without it there may be none.
 pub fn uvm_unmap(
@@ -18,17 +19,15 @@ pub fn uvm_unmap(
     va: VirtualAddress,
     n: u64,
     freeing: bool,
-) -> Answer
+) -> Result<u64, Refusal>
     ensures { Unmap
         (store_of words.old tmarks.now bytes.now fmarks.old) root va.0 n freeing result
         (store_of words.new tmarks.now bytes.now fmarks.new) }
 {
-    let no = judge::judge_unmap(words, tmarks, bytes, fmarks, root, va, n, freeing);
-    if no != 0 {
-        return Answer::Refused(no);
-    }
+    let store = Store { words, tmarks, bytes, fmarks };
+    judge::judge_unmap(&store, root, va, n, freeing)?;
     if n == 0 {
-        return Answer::Done(0);
+        return Ok(0);
     }
     leave::leave_pages(
         words,
@@ -40,7 +39,7 @@ pub fn uvm_unmap(
         n as usize,
         freeing,
     );
-    Answer::Done(0)
+    Ok(0)
 }
 
 // Takes U away from the page of va. A page that is not mapped stays so, where its level-0 table is there.
@@ -51,23 +50,21 @@ pub fn uvm_clear(
     fmarks: &[u32],
     root: u64,
     va: VirtualAddress,
-) -> Answer
+) -> Result<u64, Refusal>
     ensures { Clear
         (store_of words.old tmarks.now bytes.now fmarks.now) root va.0 result
         (store_of words.new tmarks.now bytes.now fmarks.now) }
 {
-    let no = well_formed::judge_root(words, tmarks, bytes, fmarks, root);
-    if no != 0 {
-        return Answer::Refused(no);
-    }
+    let store = Store { words, tmarks, bytes, fmarks };
+    well_formed::judge_root(&store, root)?;
     if va.0 >= MAXVA {
-        return Answer::Refused(6);
+        return Err(Refusal::TooHigh);
     }
     let m = walk::slot_of(words, root as usize, (va.0 / 4096) as usize);
     if m < 2 {
-        return Answer::Refused(11);
+        return Err(Refusal::NotMapped);
     }
     let e = PageTableEntry(walk::slot_word(words, m)).rm_user_bit();
     enter::put_slot(words, m, e.0);
-    Answer::Done(0)
+    Ok(0)
 }

@@ -8,13 +8,13 @@ use native.Mathlib.Omega.{arith}
 use Rattle.copies.proofs.BytesCode.{part_length, turn, turn_less, read_start, read_more, read_all}
 use Rattle.copies.proofs.BytesLaws.{page_room}
 use Rattle.copies.proofs.PageReasons.{placed}
-use Rattle.store.specs.Store.{store_of}
+use Rattle.store.specs.Store.{seen}
 use Rattle.copies.proofs.bytes.read_bytes.Goals as goal
 
 pub loop-i-init : goal.loop-i-init
 loop-i-init c =
     let a = c.args in
-    (omega arith, search rules, read_start (store_of a.words.now a.tmarks.now a.bytes.now a.fmarks.now) a.root a.va a.dst.now)
+    (omega arith, search rules, read_start (seen a.store.now) a.root a.va a.dst.now)
 
 pub overflow_add-a : goal.overflow_add-a
 overflow_add-a c =
@@ -30,7 +30,7 @@ place-from-requires c =
     let l = c.loop-i in
     let q : l.i < length a.dst.now = omega arith in
     let p = c.requires.pages l.i (inl q) in
-    placed (store_of a.words.now a.tmarks.now a.bytes.now a.fmarks.now) a.root (a.va + l.i) c.requires.at_root p
+    placed (seen a.store.now) a.root (a.va + l.i) c.requires.at_root p
 
 pub overflow_add-from : goal.overflow_add-from
 overflow_add-from c =
@@ -38,7 +38,7 @@ overflow_add-from c =
     let l = c.loop-i in
     let q : l.i < length a.dst.now = omega arith in
     let p = c.requires.pages l.i (inl q) in
-    omega (arith, c.place-from.ensures a.tmarks.now a.bytes.now a.fmarks.now, page_room (store_of a.words.now a.tmarks.now a.bytes.now a.fmarks.now) a.root c.requires.at_root.sized (a.va + l.i) _ p (turn (a.va + l.i) _ _ c.lesser-k.ensures))
+    omega (arith, c.place-from.ensures a.store.now.tmarks.now a.store.now.bytes.now a.store.now.fmarks.now, page_room (seen a.store.now) a.root c.requires.at_root.sized (a.va + l.i) _ p (turn (a.va + l.i) _ _ c.lesser-k.ensures))
 
 pub slice_bounds-copy_bytes-end-in-loop-i : goal.slice_bounds-copy_bytes-end-in-loop-i
 slice_bounds-copy_bytes-end-in-loop-i c =
@@ -46,7 +46,7 @@ slice_bounds-copy_bytes-end-in-loop-i c =
     let l = c.loop-i in
     let q : l.i < length a.dst.now = omega arith in
     let p = c.requires.pages l.i (inl q) in
-    omega (arith, c.place-from.ensures a.tmarks.now a.bytes.now a.fmarks.now, page_room (store_of a.words.now a.tmarks.now a.bytes.now a.fmarks.now) a.root c.requires.at_root.sized (a.va + l.i) _ p (turn (a.va + l.i) _ _ c.lesser-k.ensures))
+    omega (arith, c.place-from.ensures a.store.now.tmarks.now a.store.now.bytes.now a.store.now.fmarks.now, page_room (seen a.store.now) a.root c.requires.at_root.sized (a.va + l.i) _ p (turn (a.va + l.i) _ _ c.lesser-k.ensures))
 
 pub copy_bytes-requires : goal.copy_bytes-requires
 copy_bytes-requires c =
@@ -54,7 +54,7 @@ copy_bytes-requires c =
     let l = c.loop-i in
     let q : l.i < length a.dst.now = omega arith in
     let p = c.requires.pages l.i (inl q) in
-    part_length l.dst l.i _ (omega (arith, c.lesser-k.ensures)) ∙ sym (part_length a.bytes.now _ _ (omega (arith, c.place-from.ensures a.tmarks.now a.bytes.now a.fmarks.now, page_room (store_of a.words.now a.tmarks.now a.bytes.now a.fmarks.now) a.root c.requires.at_root.sized (a.va + l.i) _ p (turn (a.va + l.i) _ _ c.lesser-k.ensures))))
+    part_length l.dst l.i _ (omega (arith, c.lesser-k.ensures)) ∙ sym (part_length a.store.now.bytes.now _ _ (omega (arith, c.place-from.ensures a.store.now.tmarks.now a.store.now.bytes.now a.store.now.fmarks.now, page_room (seen a.store.now) a.root c.requires.at_root.sized (a.va + l.i) _ p (turn (a.va + l.i) _ _ c.lesser-k.ensures))))
 
 pub loop-i-smaller : goal.loop-i-smaller
 loop-i-smaller c =
@@ -70,11 +70,11 @@ loop-i-preserved c =
     let p = c.requires.pages l.i (inl q) in (
       omega arith,
       search rules,
-      read_more (store_of a.words.now a.tmarks.now a.bytes.now a.fmarks.now) a.root a.va a.dst.now l.dst l.i l.invariant.2 _ _ (c.place-from.ensures a.tmarks.now a.bytes.now a.fmarks.now) (turn (a.va + l.i) _ _ c.lesser-k.ensures) (omega (arith, c.place-from.ensures a.tmarks.now a.bytes.now a.fmarks.now, page_room (store_of a.words.now a.tmarks.now a.bytes.now a.fmarks.now) a.root c.requires.at_root.sized (a.va + l.i) _ p (turn (a.va + l.i) _ _ c.lesser-k.ensures))) _ c.copy_bytes.ensures,
+      read_more (seen a.store.now) a.root a.va a.dst.now l.dst l.i l.invariant.2 _ _ (c.place-from.ensures a.store.now.tmarks.now a.store.now.bytes.now a.store.now.fmarks.now) (turn (a.va + l.i) _ _ c.lesser-k.ensures) (omega (arith, c.place-from.ensures a.store.now.tmarks.now a.store.now.bytes.now a.store.now.fmarks.now, page_room (seen a.store.now) a.root c.requires.at_root.sized (a.va + l.i) _ p (turn (a.va + l.i) _ _ c.lesser-k.ensures))) _ c.copy_bytes.ensures,
     )
 
 pub returns : goal.returns
 returns c =
     let a = c.args in
     let l = c.loop-i in
-    read_all (store_of a.words.now a.tmarks.now a.bytes.now a.fmarks.now) a.root a.va a.dst.now l.dst l.i l.invariant.2 (omega arith)
+    read_all (seen a.store.now) a.root a.va a.dst.now l.dst l.i l.invariant.2 (omega arith)

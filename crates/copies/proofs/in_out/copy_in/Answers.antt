@@ -1,17 +1,17 @@
 -- `copies::in_out::copy_in` meets its contract. Assumes nothing.
+use Rattle.std.proofs.lemmas.Result.{err_from_is_err_and}
 use Rattle.copies.proofs.InOutLaws.{in_refused, in_done}
-use Rattle.store.specs.Store.{store_of}
+use Rattle.store.specs.Store.{seen}
 use Rattle.copies.proofs.in_out.copy_in.Goals as goal
 
-pub returns-then-no-ne0 : goal.returns-then-no-ne0
-returns-then-no-ne0 c =
-    let a = c.args in
-    in_refused (store_of a.words.now a.tmarks.now a.bytes.now a.fmarks.now) a.root a.va.0 a.dst.now _ c.judge_copy-no.ensures c.if-no-ne0.true
+pub returns-in_err-judge_copy : goal.returns-in_err-judge_copy
+returns-in_err-judge_copy c = let p = err_from_is_err_and c.from_residual.result c.from_residual.ensures.1 in rw (p.1, p.2) let a = c.args in
+    in_refused (seen a.store.now) a.root a.va.0 a.dst.now _ c.in_err-judge_copy.ensures
 
 pub read_bytes-requires : goal.read_bytes-requires
-read_bytes-requires c = c.judge_copy-no.ensures.ready c.if-no-ne0.false
+read_bytes-requires c = c.in_ok-judge_copy.ensures
 
 pub returns : goal.returns
 returns c =
     let a = c.args in
-    in_done (store_of a.words.now a.tmarks.now a.bytes.now a.fmarks.now) a.root a.va.0 a.dst.now (c.judge_copy-no.ensures.ready c.if-no-ne0.false) _ c.read_bytes.ensures
+    in_done (seen a.store.now) a.root a.va.0 a.dst.now (c.in_ok-judge_copy.ensures) _ c.read_bytes.ensures

@@ -1,33 +1,33 @@
 -- `grow::growing::judge_grow` meets its contract. Assumes nothing.
+use Rattle.std.proofs.lemmas.Result.{err_from_is_err_and}
 use Rattle.grow.proofs.GrowReasons.{by_sizes, asked, by_pages, no_pages}
-use Rattle.store.specs.Store.{store_of}
+use Rattle.store.specs.Store.{seen}
 use Rattle.grow.proofs.growing.judge_grow.Goals as goal
 
-pub returns-then-no-ne0 : goal.returns-then-no-ne0
-returns-then-no-ne0 c =
-    let a = c.args in
-    by_sizes (store_of a.words.now a.tmarks.now a.bytes.now a.fmarks.now) a.root a.old a.new _ c.if-no-ne0.true c.judge_sizes-no.ensures
+pub returns-in_err-judge_sizes : goal.returns-in_err-judge_sizes
+returns-in_err-judge_sizes c = let p = err_from_is_err_and c.from_residual.result c.from_residual.ensures.1 in rw (p.1, p.2) let a = c.args in
+    by_sizes (seen a.store.now) a.root a.old a.new _ c.if-no-ne0.true c.judge_sizes-no.ensures
 
 pub pages_to-first-requires : goal.pages_to-first-requires
-pages_to-first-requires c = (c.judge_sizes-no.ensures.ready c.if-no-ne0.false).old_small
+pages_to-first-requires c = (c.in_ok-judge_sizes.ensures).old_small
 
 pub pages_to-end-requires : goal.pages_to-end-requires
-pages_to-end-requires c = (c.judge_sizes-no.ensures.ready c.if-no-ne0.false).new_small
+pages_to-end-requires c = (c.in_ok-judge_sizes.ensures).new_small
 
 pub returns-then-end-first : goal.returns-then-end-first
 returns-then-end-first c =
     let a = c.args in
-    let z = c.judge_sizes-no.ensures.ready c.if-no-ne0.false in
-    no_pages (store_of a.words.now a.tmarks.now a.bytes.now a.fmarks.now) a.root a.old a.new z _ _ c.pages_to-first.ensures c.pages_to-end.ensures c.if-end-first.true
+    let z = c.in_ok-judge_sizes.ensures in
+    no_pages (seen a.store.now) a.root a.old a.new z _ _ c.pages_to-first.ensures c.pages_to-end.ensures c.if-end-first.true
 
 pub judge_fresh-requires : goal.judge_fresh-requires
 judge_fresh-requires c =
     let a = c.args in
-    let z = c.judge_sizes-no.ensures.ready c.if-no-ne0.false in
-    asked (store_of a.words.now a.tmarks.now a.bytes.now a.fmarks.now) a.root a.old a.new z _ _ c.pages_to-first.ensures c.pages_to-end.ensures c.if-end-first.false
+    let z = c.in_ok-judge_sizes.ensures in
+    asked (seen a.store.now) a.root a.old a.new z _ _ c.pages_to-first.ensures c.pages_to-end.ensures c.if-end-first.false
 
 pub returns : goal.returns
 returns c =
     let a = c.args in
-    let z = c.judge_sizes-no.ensures.ready c.if-no-ne0.false in
-    by_pages (store_of a.words.now a.tmarks.now a.bytes.now a.fmarks.now) a.root a.old a.new z _ _ c.pages_to-first.ensures c.pages_to-end.ensures _ c.judge_fresh.ensures
+    let z = c.in_ok-judge_sizes.ensures in
+    by_pages (seen a.store.now) a.root a.old a.new z _ _ c.pages_to-first.ensures c.pages_to-end.ensures _ c.judge_fresh.ensures

@@ -1,18 +1,18 @@
 -- `process::parts::judge_uvm_free` meets its contract. Assumes nothing.
 use native.Mathlib.Omega.{arith}
+use Rattle.std.proofs.lemmas.Result.{err_from_is_err_and}
 use Rattle.process.proofs.CutLaws.{root_refused, rest_judged}
-use Rattle.store.specs.Store.{store_of}
+use Rattle.store.specs.Store.{seen}
 use Rattle.process.proofs.parts.judge_uvm_free.Goals as goal
 
-pub returns-then-no-ne0 : goal.returns-then-no-ne0
-returns-then-no-ne0 c =
-    let a = c.args in
-    root_refused (store_of a.words.now a.tmarks.now a.bytes.now a.fmarks.now) a.root _ c.judge_root-no.ensures a.size c.if-no-ne0.true
+pub returns-in_err-judge_root : goal.returns-in_err-judge_root
+returns-in_err-judge_root c = let p = err_from_is_err_and c.from_residual.result c.from_residual.ensures.1 in rw (p.1, p.2) let a = c.args in
+    root_refused (seen a.store.now) a.root _ c.judge_root-no.ensures a.size c.if-no-ne0.true
 
 pub judge_rest-requires : goal.judge_rest-requires
-judge_rest-requires c = (c.judge_root-no.ensures.ready c.if-no-ne0.false, omega arith)
+judge_rest-requires c = (c.in_ok-judge_root.ensures, omega arith)
 
 pub returns : goal.returns
 returns c =
     let a = c.args in
-    rest_judged (store_of a.words.now a.tmarks.now a.bytes.now a.fmarks.now) a.root a.size _ (c.judge_root-no.ensures.ready c.if-no-ne0.false) c.judge_rest.ensures
+    rest_judged (seen a.store.now) a.root a.size _ (c.in_ok-judge_root.ensures) c.judge_rest.ensures

@@ -1,11 +1,12 @@
 -- `process::parts::uvm_free` meets its contract. Assumes nothing.
+use Rattle.std.proofs.lemmas.Result.{err_from_is_err_and}
 use Rattle.process.proofs.parts.uvm_free.Goals as goal
 
-pub returns-then-no-ne0 : goal.returns-then-no-ne0
-returns-then-no-ne0 c = c.judge_uvm_free-no.ensures.reason c.if-no-ne0.true
+pub returns-in_err-judge_uvm_free : goal.returns-in_err-judge_uvm_free
+returns-in_err-judge_uvm_free c = let p = err_from_is_err_and c.from_residual.result c.from_residual.ensures.1 in rw (p.1, p.2) c.in_err-judge_uvm_free.ensures
 
 pub do_rest-requires : goal.do_rest-requires
-do_rest-requires c = c.judge_uvm_free-no.ensures.ready c.if-no-ne0.false
+do_rest-requires c = c.in_ok-judge_uvm_free.ensures
 
 pub returns : goal.returns
 returns c = c.do_rest.ensures

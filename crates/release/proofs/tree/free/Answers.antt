@@ -1,20 +1,20 @@
 -- `release::tree::free` meets its contract. Assumes nothing.
+use Rattle.std.proofs.lemmas.Result.{err_from_is_err_and}
 use Rattle.release.proofs.FreeLaws.{refuse, may_free, done}
 use Rattle.store.specs.Store.{store_of}
 use Rattle.release.proofs.tree.free.Goals as goal
 
-pub returns-then-no-ne0 : goal.returns-then-no-ne0
-returns-then-no-ne0 c =
-    let a = c.args in
-    refuse (store_of a.words.now a.tmarks.now a.bytes.now a.fmarks.now) a.root _ c.judge_free-no.ensures c.if-no-ne0.true
+pub returns-in_err-judge_free : goal.returns-in_err-judge_free
+returns-in_err-judge_free c = let p = err_from_is_err_and c.from_residual.result c.from_residual.ensures.1 in rw (p.1, p.2) let a = c.args in
+    refuse (store_of a.words.now a.tmarks.now a.bytes.now a.fmarks.now) a.root _ c.in_err-judge_free.ensures
 
 pub free_table-requires : goal.free_table-requires
 free_table-requires c =
     let a = c.args in
-    may_free (store_of a.words.now a.tmarks.now a.bytes.now a.fmarks.now) a.root (c.judge_free-no.ensures.ready c.if-no-ne0.false)
+    may_free (store_of a.words.now a.tmarks.now a.bytes.now a.fmarks.now) a.root (c.in_ok-judge_free.ensures)
 
 pub returns : goal.returns
 returns c =
     let a = c.args in
     let r = c.free_table in
-    done (store_of a.words.now a.tmarks.now a.bytes.now a.fmarks.now) a.root (c.judge_free-no.ensures.ready c.if-no-ne0.false) r.new.words r.new.tmarks r.result r.ensures
+    done (store_of a.words.now a.tmarks.now a.bytes.now a.fmarks.now) a.root (c.in_ok-judge_free.ensures) r.new.words r.new.tmarks r.result r.ensures
