@@ -34,9 +34,6 @@ use Rattle.child.proofs.ChildReasons.{clear}
 use Rattle.child.proofs.ChildLoop.{child_may, fillable, in_use}
 
 module _ (s : Store) (parent child size : ℕ) where
-  pub refuse : (k : ℕ) → Smallest (ChildReason s parent child size) k → (k ≡ 0 → ⊥) → Child s parent child size (Err k) s
-  refuse k j h = (j.reason h, refl)
-
   abbrev after : Store
   after = fresh_pages s child 0 (size / 4096) (page_flags s parent) (page_bytes s parent)
 

@@ -45,7 +45,7 @@ module _ (s : Store) (root va n : ℕ) where
   pub copy_where : RootReady s root → NoReason R → F
   copy_where f clear = record { at_root = f; pages = λ i x. page_where s root (va + i) (λ k h. clear k (page i x h)) }
 
-  pub by_root : (m : ℕ) → (m ≡ 0 → ⊥) → Smallest (RootReason s root) m → Smallest R m
+  pub by_root : (m : ℕ) → Smallest (RootReason s root) m → Smallest R m
   by_root m h q = first_no F split (λ k. at_root) (λ j k a b. omega (arith, root_upto a, page_range b.2)) m h (q.reason h)
 
   module _ (f : RootReady s root) where

@@ -19,9 +19,6 @@ use Rattle.grow.proofs.GrowReasons.{asked, clear}
 use Rattle.fresh.proofs.GrownLaws.{pages_grown, growable_where}
 
 module _ (s : Store) (root old new : ℕ) where
-  pub refuse : (k : ℕ) → Smallest (GrowReason s root old new) k → (k ≡ 0 → ⊥) → Grow s root old new (Err k) s
-  refuse k j h = (j.reason h, refl)
-
   -- two answers to one call are the same, and so are the stores
   pub one_grow : (a a' : Result ℕ Refusal) (t t' : Store) → Grow s root old new a t → Grow s root old new a' t' → (a ≡ a') × (t ≡ t')
   one_grow = one_outcome (GrowReason s root old new) (GrowDone s root old new) (λ v v' t t' x y. (x.0 ∙ sym y.0, x.1 ∙ sym y.1)) s

@@ -28,9 +28,6 @@ pub padded_length : (src : List ℕ) → length src < 4096 → length (padded sr
 padded_length src h = omega (arith, length-append src (replicate (4096 - length src) 0), length-replicate {A = ℕ} (4096 - length src) 0)
 
 module _ (s : Store) (root : ℕ) (src : List ℕ) where
-  pub refuse : (k : ℕ) → Smallest (InitReason s root src) k → (k ≡ 0 → ⊥) → Init s root src (Err k) s
-  refuse k j h = (j.reason h, refl)
-
   module _ (f : InitReady s root src) where
     can : Growable 1 s root 0
     can = growable s root 0 1 (record { asked = asked s root src f.at_root; ready = f.page })

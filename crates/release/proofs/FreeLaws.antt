@@ -16,9 +16,6 @@ use Rattle.release.proofs.FreeReasons.{clear}
 use Rattle.release.proofs.Released.{frees_root}
 
 module _ (s : Store) (root : ℕ) where
-  pub refuse : (n : ℕ) → Smallest (FreeReason s root) n → Free s root (Err n) s
-  refuse n j h = (j.reason h, refl)
-
   -- two answers to one call are the same, and so are the stores
   pub one_free : (a a' : Result ℕ Refusal) (t t' : Store) → Free s root a t → Free s root a' t' → (a ≡ a') × (t ≡ t')
   one_free = one_outcome (FreeReason s root) (FreeDone s root) (λ v v' t t' x y. (x.0 ∙ sym y.0, x.1 ∙ sym y.1)) s

@@ -18,9 +18,6 @@ use Rattle.shrink.specs.Shrink.{lost, ShrinkReason, pages, ShrinkReady, ShrinkDo
 use Rattle.shrink.proofs.ShrinkReasons.{asked, clear}
 
 module _ (s : Store) (root old new : ℕ) where
-  pub refuse : (k : ℕ) → Smallest (ShrinkReason s root old new) k → (k ≡ 0 → ⊥) → Shrink s root old new (Err k) s
-  refuse k j h = (j.reason h, refl)
-
   -- two answers to one call are the same, and so are the stores
   pub one_shrink : (a a' : Result ℕ Refusal) (t t' : Store) → Shrink s root old new a t → Shrink s root old new a' t' → (a ≡ a') × (t ≡ t')
   one_shrink = one_outcome (ShrinkReason s root old new) (ShrinkDone s root old new) (λ v v' t t' x y. (x.0 ∙ sym y.0, x.1 ∙ sym y.1)) s

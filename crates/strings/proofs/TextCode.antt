@@ -59,9 +59,6 @@ module _ (s : Store) (root va max : ℕ) where
 
   -- m bytes are passed, and the way ends there
   module _ (f : RootReady s root) (m : ℕ) (p : (j : ℕ) → j < m → Passed s root (va + j)) where
-    -- the page of the next one cannot be read
-    pub refuse : Needs max m → (n w : ℕ) (met : Bool) → Smallest (PageReason s root (va + m)) n → Measures s root va max n w met
-    refuse d n w met h q = record {
       refused = λ _. record { applies = page m d p q.applies; least = least };
       clear = λ e. absurd (h e);
       count = λ e. absurd (h e);

@@ -8,6 +8,8 @@ use native.Mathlib.Nat.{le_refl}
 use native.Mathlib.Omega.{arith}
 use Rattle.std.specs.Prelude.{Result, Ok, Err}
 use Rattle.refusal.specs.declared.Refusal.{Refusal}
+use Rattle.refusal.specs.Number.{number_of}
+use Rattle.refusal.specs.declared.Refusal.TheVariants.{NotMapped, TooHigh}
 use Rattle.page_table_entry.specs.Layout.{bit_u}
 use Rattle.page_table_entry.specs.Change.{with_bit}
 use Rattle.store.specs.Store.{Store}
@@ -38,8 +40,8 @@ module _ (s : Store) (root va : ℕ) where
   pub one_clear : (a a' : Result ℕ Refusal) (t t' : Store) → Clear s root va a t → Clear s root va a' t' → (a ≡ a') × (t ≡ t')
   one_clear = one_outcome R (ClearDone s root va) (λ v v' t t' x y. (x.0 ∙ sym y.0, x.1 ∙ sym y.1)) s
 
-  pub by_root : (n : ℕ) → Smallest (RootReason s root) n → Clear s root va (Err n) s
-  by_root n m = (root_first s root (λ k. at_root) split n m, refl)
+  pub by_root : (k : Refusal) → Smallest (RootReason s root) (number_of k) → Clear s root va (Err k) s
+  by_root n m = (root_first s root (λ k. at_root) split (number_of n) m, refl)
 
   module _ (r : RootReady s root) where
     least : (n : ℕ) → (6 < n → va < 2 ^ 38) → (11 < n → Table) → (k : ℕ) → k < n → R k → ⊥
@@ -47,12 +49,12 @@ module _ (s : Store) (root va : ℕ) where
     least n v t k l (too_high h) = omega (arith, v l)
     least n v t k l (no_table h) = omega (arith, t l)
 
-    pub no_6 : 2 ^ 38 ≤ va → Clear s root va (Err 6) s
+    pub no_6 : 2 ^ 38 ≤ va → Clear s root va (Err TooHigh) s
     no_6 h = (record { applies = too_high h; least = least 6 (λ l. absurd (omega arith)) (λ l. absurd (omega arith)) }, refl)
 
     -- m is the page's slot
     module _ (v : va < 2 ^ 38) (m : ℕ) (em : m ≡ slot (slot_word s.words) root 2 (va / 4096)) where
-      pub no_11 : m < 2 → Clear s root va (Err 11) s
+      pub no_11 : m < 2 → Clear s root va (Err NotMapped) s
       no_11 h =
           let t : entry_at s root 1 (va / 4096 / 512) ≡ 0 =
           by_cases (dec_lt 0 (entry_at s root 1 (va / 4096 / 512))) (λ q. absurd (omega (arith, page_slot s (tree_of s r.sized r.formed) root (va / 4096) r.is_root (omega arith) q))) (λ q. omega arith) in

@@ -16,9 +16,6 @@ use Rattle.unmap.proofs.UnmapReasons.{within, clear}
 use Rattle.unmap.proofs.GoneLaws.{left_gone}
 
 module _ (s : Store) (root va n : ℕ) (freeing : Bool) where
-  pub refuse : (k : ℕ) → Smallest (UnmapReason s root va n freeing) k → (k ≡ 0 → ⊥) → Unmap s root va n freeing (Err k) s
-  refuse k j h = (j.reason h, refl)
-
   -- two answers to one call are the same, and so are the stores
   pub one_unmap : (a a' : Result ℕ Refusal) (t t' : Store) → Unmap s root va n freeing a t → Unmap s root va n freeing a' t' → (a ≡ a') × (t ≡ t')
   one_unmap = one_outcome (UnmapReason s root va n freeing) (UnmapDone s root va n freeing) (λ v v' t t' x y. (x.0 ∙ sym y.0, x.1 ∙ sym y.1)) s

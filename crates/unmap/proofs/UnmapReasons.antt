@@ -6,11 +6,14 @@ use native.Mathlib.Nat.{le_refl}
 use native.Mathlib.Decide.{ℕ_discrete, dec_le}
 use mathlib.Core.Logic.{◌⊎◌, inl, inr, by_cases}
 use native.Mathlib.Omega.{arith}
+use Rattle.std.specs.Prelude.{Result, Ok, Err}
+use Rattle.refusal.specs.declared.Refusal.{Refusal}
+use Rattle.refusal.specs.Number.{number_of}
 use Rattle.address.specs.Field.{bit}
 use Rattle.page_table_entry.specs.Layout.{bit_v}
 use Rattle.store.specs.Store.{Store}
 use Rattle.store.specs.Walk.{resolve}
-use Rattle.store.specs.Outcome.{Smallest, NoReason}
+use Rattle.store.specs.Outcome.{Smallest, NoReason, Judges}
 use Rattle.well_formed.specs.Root.{RootReason, RootReady}
 use Rattle.well_formed.proofs.RootReasons.{root_clear, root_first}
 use Rattle.unmap.specs.Leave.{LeaveReason, pooled, unmapped, bare, LeaveReady}
@@ -60,11 +63,8 @@ module _ (s : Store) (root va n : ℕ) (freeing : Bool) where
   split k (unaligned h) = inr (omega arith)
   split k (pages h) = inr (omega (arith, leave_range h))
 
-  pub root_least : (j : ℕ) → Smallest (RootReason s root) j → Smallest R j
-  root_least = root_first s root (λ k. at_root) split
-
-  pub by_root : (j : ℕ) → (j ≡ 0 → ⊥) → Smallest (RootReason s root) j → Smallest R j
-  by_root j h q = (root_least j (q.reason h))
+  pub by_root : (j : ℕ) → Smallest (RootReason s root) j → Smallest R j
+  by_root = root_first s root (λ k. at_root) split
 
   module _ (r : RootReady s root) where
     least : (j : ℕ) → (6 < j → TooHigh (va / 4096) n → ⊥) → (7 < j → va % 4096 ≡ 0) → ((k : ℕ) → k < j → L k → ⊥) → (k : ℕ) → k < j → R k → ⊥
@@ -92,11 +92,9 @@ module _ (s : Store) (root va n : ℕ) (freeing : Bool) where
         nothing h =
             (ready (leave_none s root (va / 4096) n freeing h))
 
-        pub by_pages : (j : ℕ) → Smallest L j → Smallest R j
-        by_pages j q = record {
-          ready = λ e. ready (q.ready e);
-          reason = λ h. let m = q.reason h in record { applies = pages m.applies; least = least j (λ l. t) (λ l. a) m.least };
-        }
+        pub by_pages : (j : Result Unit Refusal) → Judges L (LeaveReady s root (va / 4096) n freeing) j → Judges R F j
+        by_pages (Ok u) f = ready f
+        by_pages (Err k) m = record { applies = pages m.applies; least = least (number_of k) (λ l. t) (λ l. a) m.least }
 
   -- where the call is ready no reason applies
   pub clear : F → NoReason R

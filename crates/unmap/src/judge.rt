@@ -19,13 +19,7 @@ pub const FRAME_PART: u64 = 0xFFFF_FFFF_F800_0000;
 pub const WINDOW: u64 = 0x4000_0000;
 
 // Whether, without freeing, one of the pages from first up to end has a pool frame.
-fn meets_pool(
-    store: &Store,
-    root: usize,
-    first: usize,
-    end: usize,
-    freeing: bool,
-) -> bool
+fn meets_pool(store: &Store, root: usize, first: usize, end: usize, freeing: bool) -> bool
     requires { Asked (seen store.now) root first (end - first) × (first ≤ end) }
     ensures { Says result
         (MeetsPool (seen store.now) root first (end - first) freeing) }

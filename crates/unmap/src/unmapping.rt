@@ -24,7 +24,12 @@ pub fn uvm_unmap(
         (store_of words.old tmarks.now bytes.now fmarks.old) root va.0 n freeing result
         (store_of words.new tmarks.now bytes.now fmarks.new) }
 {
-    let store = Store { words, tmarks, bytes, fmarks };
+    let store = Store {
+        words,
+        tmarks,
+        bytes,
+        fmarks,
+    };
     judge::judge_unmap(&store, root, va, n, freeing)?;
     if n == 0 {
         return Ok(0);
@@ -55,7 +60,12 @@ pub fn uvm_clear(
         (store_of words.old tmarks.now bytes.now fmarks.now) root va.0 result
         (store_of words.new tmarks.now bytes.now fmarks.now) }
 {
-    let store = Store { words, tmarks, bytes, fmarks };
+    let store = Store {
+        words,
+        tmarks,
+        bytes,
+        fmarks,
+    };
     well_formed::judge_root(&store, root)?;
     if va.0 >= MAXVA {
         return Err(Refusal::TooHigh);

@@ -9,8 +9,7 @@ use Rattle.store.specs.Store.{seen}
 use Rattle.child.proofs.child.judge_child.Goals as goal
 
 pub returns-in_err-judge_root : goal.returns-in_err-judge_root
-returns-in_err-judge_root c = let p = err_from_is_err_and c.from_residual.result c.from_residual.ensures.1 in rw (p.1, p.2) let a = c.args in
-    by_parent (seen a.store.now) a.parent a.child a.size _ c.if-no-ne0.true c.judge_root-no.ensures
+returns-in_err-judge_root c = let p = err_from_is_err_and c.from_residual.result c.from_residual.ensures.1 in rw (p.1, p.2) (let a = c.args in by_parent (seen a.store.now) a.parent a.child a.size _ c.in_err-judge_root.ensures)
 
 pub returns-then-mark_at-ne1 : goal.returns-then-mark_at-ne1
 returns-then-mark_at-ne1 c =

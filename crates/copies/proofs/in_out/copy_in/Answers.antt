@@ -5,8 +5,7 @@ use Rattle.store.specs.Store.{seen}
 use Rattle.copies.proofs.in_out.copy_in.Goals as goal
 
 pub returns-in_err-judge_copy : goal.returns-in_err-judge_copy
-returns-in_err-judge_copy c = let p = err_from_is_err_and c.from_residual.result c.from_residual.ensures.1 in rw (p.1, p.2) let a = c.args in
-    in_refused (seen a.store.now) a.root a.va.0 a.dst.now _ c.in_err-judge_copy.ensures
+returns-in_err-judge_copy c = let p = err_from_is_err_and c.from_residual.result c.from_residual.ensures.1 in rw (p.1, p.2) (let a = c.args in in_refused (seen a.store.now) a.root a.va.0 a.dst.now _ c.in_err-judge_copy.ensures)
 
 pub read_bytes-requires : goal.read_bytes-requires
 read_bytes-requires c = c.in_ok-judge_copy.ensures

@@ -7,8 +7,7 @@ use Rattle.walk.proofs.Calls.{root_in}
 use Rattle.copies.proofs.needed.judge_copy.Goals as goal
 
 pub returns-in_err-judge_root : goal.returns-in_err-judge_root
-returns-in_err-judge_root c = let p = err_from_is_err_and c.from_residual.result c.from_residual.ensures.1 in rw (p.1, p.2) let a = c.args in
-    by_root (seen a.store.now) a.root a.va a.n _ c.if-no-ne0.true c.judge_root-no.ensures
+returns-in_err-judge_root c = let p = err_from_is_err_and c.from_residual.result c.from_residual.ensures.1 in rw (p.1, p.2) (let a = c.args in by_root (seen a.store.now) a.root a.va a.n _ c.in_err-judge_root.ensures)
 
 pub returns-then-va-ge-MAXVA : goal.returns-then-va-ge-MAXVA
 returns-then-va-ge-MAXVA c =

@@ -1,12 +1,12 @@
 -- `grow::growing::uvm_alloc` meets its contract. Assumes nothing.
+use mathlib.Core.Path.{refl}
 use Rattle.std.proofs.lemmas.Result.{err_from_is_err_and}
-use Rattle.grow.proofs.GrowLaws.{refuse, may_grow, done_all, done_none}
+use Rattle.grow.proofs.GrowLaws.{may_grow, done_all, done_none}
 use Rattle.store.specs.Store.{store_of}
 use Rattle.grow.proofs.growing.uvm_alloc.Goals as goal
 
 pub returns-in_err-judge_grow : goal.returns-in_err-judge_grow
-returns-in_err-judge_grow c = let p = err_from_is_err_and c.from_residual.result c.from_residual.ensures.1 in rw (p.1, p.2) let a = c.args in
-    refuse (store_of a.words.now a.tmarks.now a.bytes.now a.fmarks.now) a.root a.old a.new _ c.in_err-judge_grow.ensures
+returns-in_err-judge_grow c = let p = err_from_is_err_and c.from_residual.result c.from_residual.ensures.1 in rw (p.1, p.2) (c.in_err-judge_grow.ensures, refl)
 
 pub pages_to-first-requires : goal.pages_to-first-requires
 pages_to-first-requires c = (c.in_ok-judge_grow.ensures).sizes.old_small

@@ -1,14 +1,14 @@
 -- `grow::init::uvm_init` meets its contract. Assumes nothing.
+use mathlib.Core.Path.{refl}
 use native.Mathlib.Omega.{arith}
 use Rattle.std.proofs.lemmas.Result.{err_from_is_err_and}
 use Rattle.fresh.proofs.FrameCode.{frame_length}
-use Rattle.grow.proofs.InitLaws.{refuse, may_enter, frame_in, done}
+use Rattle.grow.proofs.InitLaws.{may_enter, frame_in, done}
 use Rattle.store.specs.Store.{store_of}
 use Rattle.grow.proofs.init.uvm_init.Goals as goal
 
 pub returns-in_err-judge_init : goal.returns-in_err-judge_init
-returns-in_err-judge_init c = let p = err_from_is_err_and c.from_residual.result c.from_residual.ensures.1 in rw (p.1, p.2) let a = c.args in
-    refuse (store_of a.words.now a.tmarks.now a.bytes.now a.fmarks.now) a.root a.src.now _ c.in_err-judge_init.ensures
+returns-in_err-judge_init c = let p = err_from_is_err_and c.from_residual.result c.from_residual.ensures.1 in rw (p.1, p.2) (c.in_err-judge_init.ensures, refl)
 
 pub enter_frame-f-requires : goal.enter_frame-f-requires
 enter_frame-f-requires c =

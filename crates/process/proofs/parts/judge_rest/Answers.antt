@@ -23,8 +23,7 @@ judge_leave-no-requires c =
     can_ask (seen a.store.now) a.root a.size a.top c.requires.1 c.if-size-gt-MAXVA.false _ c.pages_to-n.ensures c.if-n-top.false c.requires.0
 
 pub returns-in_err-judge_leave : goal.returns-in_err-judge_leave
-returns-in_err-judge_leave c = let p = err_from_is_err_and c.from_residual.result c.from_residual.ensures.1 in rw (p.1, p.2) let a = c.args in
-    pages_refused (seen a.store.now) a.root a.size a.top c.requires.1 c.if-size-gt-MAXVA.false _ c.pages_to-n.ensures c.if-n-top.false _ c.in_err-judge_leave.ensures
+returns-in_err-judge_leave c = let p = err_from_is_err_and c.from_residual.result c.from_residual.ensures.1 in rw (p.1, p.2) (let a = c.args in pages_refused (seen a.store.now) a.root a.size a.top c.requires.1 c.if-size-gt-MAXVA.false _ c.pages_to-n.ensures c.if-n-top.false _ c.in_err-judge_leave.ensures)
 
 pub count_pages-requires : goal.count_pages-requires
 count_pages-requires c =

@@ -6,8 +6,7 @@ use Rattle.store.specs.Store.{seen}
 use Rattle.process.proofs.parts.judge_shared.Goals as goal
 
 pub returns-in_err-judge_unmap : goal.returns-in_err-judge_unmap
-returns-in_err-judge_unmap c = let p = err_from_is_err_and c.from_residual.result c.from_residual.ensures.1 in rw (p.1, p.2) let a = c.args in
-    shared_refused (seen a.store.now) a.root a.size _ c.in_err-judge_unmap.ensures
+returns-in_err-judge_unmap c = let p = err_from_is_err_and c.from_residual.result c.from_residual.ensures.1 in rw (p.1, p.2) (let a = c.args in shared_refused (seen a.store.now) a.root a.size _ c.in_err-judge_unmap.ensures)
 
 pub judge_rest-requires : goal.judge_rest-requires
 judge_rest-requires c =

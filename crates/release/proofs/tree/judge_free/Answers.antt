@@ -5,8 +5,7 @@ use Rattle.store.specs.Store.{seen}
 use Rattle.release.proofs.tree.judge_free.Goals as goal
 
 pub returns-in_err-judge_root : goal.returns-in_err-judge_root
-returns-in_err-judge_root c = let p = err_from_is_err_and c.from_residual.result c.from_residual.ensures.1 in rw (p.1, p.2) let a = c.args in
-    by_root (seen a.store.now) a.root _ c.if-no-ne0.true c.judge_root-no.ensures
+returns-in_err-judge_root c = let p = err_from_is_err_and c.from_residual.result c.from_residual.ensures.1 in rw (p.1, p.2) (let a = c.args in by_root (seen a.store.now) a.root _ c.in_err-judge_root.ensures)
 
 pub count_pages-requires : goal.count_pages-requires
 count_pages-requires c =

@@ -5,8 +5,7 @@ use Rattle.store.specs.Store.{seen}
 use Rattle.shrink.proofs.shrink.judge_shrink.Goals as goal
 
 pub returns-in_err-judge_sizes : goal.returns-in_err-judge_sizes
-returns-in_err-judge_sizes c = let p = err_from_is_err_and c.from_residual.result c.from_residual.ensures.1 in rw (p.1, p.2) let a = c.args in
-    by_sizes (seen a.store.now) a.root a.old a.new _ c.if-no-ne0.true c.judge_sizes-no.ensures
+returns-in_err-judge_sizes c = let p = err_from_is_err_and c.from_residual.result c.from_residual.ensures.1 in rw (p.1, p.2) (let a = c.args in by_sizes (seen a.store.now) a.root a.old a.new _ c.in_err-judge_sizes.ensures)
 
 pub pages_to-first-requires : goal.pages_to-first-requires
 pages_to-first-requires c = (c.in_ok-judge_sizes.ensures).new_small

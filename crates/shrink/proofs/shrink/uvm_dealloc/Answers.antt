@@ -1,12 +1,12 @@
 -- `shrink::shrink::uvm_dealloc` meets its contract. Assumes nothing.
+use mathlib.Core.Path.{refl}
 use Rattle.std.proofs.lemmas.Result.{err_from_is_err_and}
 use Rattle.store.specs.Store.{store_of}
-use Rattle.shrink.proofs.ShrinkLaws.{refuse, may_leave, done_all, done_none}
+use Rattle.shrink.proofs.ShrinkLaws.{may_leave, done_all, done_none}
 use Rattle.shrink.proofs.shrink.uvm_dealloc.Goals as goal
 
 pub returns-in_err-judge_shrink : goal.returns-in_err-judge_shrink
-returns-in_err-judge_shrink c = let p = err_from_is_err_and c.from_residual.result c.from_residual.ensures.1 in rw (p.1, p.2) let a = c.args in
-    refuse (store_of a.words.now a.tmarks.now a.bytes.now a.fmarks.now) a.root a.old a.new _ c.in_err-judge_shrink.ensures
+returns-in_err-judge_shrink c = let p = err_from_is_err_and c.from_residual.result c.from_residual.ensures.1 in rw (p.1, p.2) (c.in_err-judge_shrink.ensures, refl)
 
 pub pages_to-first-requires : goal.pages_to-first-requires
 pages_to-first-requires c = (c.in_ok-judge_shrink.ensures).sizes.new_small

@@ -7,8 +7,7 @@ use Rattle.store.specs.Store.{seen}
 use Rattle.strings.proofs.text.copy_in_str.Goals as goal
 
 pub returns-in_err-judge_root : goal.returns-in_err-judge_root
-returns-in_err-judge_root c = let p = err_from_is_err_and c.from_residual.result c.from_residual.ensures.1 in rw (p.1, p.2) let a = c.args in
-    refuse_root (seen a.store.now) a.root a.va.0 a.dst.now _ c.in_err-judge_root.ensures
+returns-in_err-judge_root c = let p = err_from_is_err_and c.from_residual.result c.from_residual.ensures.1 in rw (p.1, p.2) (let a = c.args in refuse_root (seen a.store.now) a.root a.va.0 a.dst.now _ c.in_err-judge_root.ensures)
 
 pub measure-way-requires : goal.measure-way-requires
 measure-way-requires c = c.in_ok-judge_root.ensures

@@ -11,8 +11,7 @@ use Rattle.unmap.proofs.UnmapReasons.{by_root, no_6, no_7, within, nothing, by_p
 use Rattle.unmap.proofs.judge.judge_unmap.Goals as goal
 
 pub returns-in_err-judge_root : goal.returns-in_err-judge_root
-returns-in_err-judge_root c = let p = err_from_is_err_and c.from_residual.result c.from_residual.ensures.1 in rw (p.1, p.2) let a = c.args in
-    by_root (seen a.store.now) a.root a.va.0 a.n a.freeing _ c.if-no-ne0.true c.judge_root-no.ensures
+returns-in_err-judge_root c = let p = err_from_is_err_and c.from_residual.result c.from_residual.ensures.1 in rw (p.1, p.2) (let a = c.args in by_root (seen a.store.now) a.root a.va.0 a.n a.freeing _ c.in_err-judge_root.ensures)
 
 pub returns-then-too_high : goal.returns-then-too_high
 returns-then-too_high c =

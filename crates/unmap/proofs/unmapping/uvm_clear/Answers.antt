@@ -7,8 +7,7 @@ use Rattle.unmap.proofs.ClearLaws.{by_root, no_6, no_11, done}
 use Rattle.unmap.proofs.unmapping.uvm_clear.Goals as goal
 
 pub returns-in_err-judge_root : goal.returns-in_err-judge_root
-returns-in_err-judge_root c = let p = err_from_is_err_and c.from_residual.result c.from_residual.ensures.1 in rw (p.1, p.2) let a = c.args in
-    by_root (store_of a.words.now a.tmarks.now a.bytes.now a.fmarks.now) a.root a.va.0 _ (c.in_err-judge_root.ensures)
+returns-in_err-judge_root c = let p = err_from_is_err_and c.from_residual.result c.from_residual.ensures.1 in rw (p.1, p.2) (let a = c.args in by_root (store_of a.words.now a.tmarks.now a.bytes.now a.fmarks.now) a.root a.va.0 _ c.in_err-judge_root.ensures)
 
 pub returns-then-va-ge-MAXVA : goal.returns-then-va-ge-MAXVA
 returns-then-va-ge-MAXVA c =
