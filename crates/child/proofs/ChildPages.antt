@@ -74,7 +74,7 @@ module _ (s : Store) (parent child n : ℕ) where
       to14 = just_passed 11 Unmapped (λ (p, l, h). h (mapped p l))
 
       module _ (t : ℕ) (met : PagesAlike s.words child 0 n 1 1 t) where
-        pub no_14 : Smallest PageReason 14
+        pub no_14 : (t ≡ 0 → ⊥) → Smallest PageReason 14
         no_14 h =
             let q = one_has (entry_in s.words child 2) 1 1 0 n t (omega arith) met (omega arith) in
             to14 14 (just_found 14 Taken above14 (omega arith) (q.0, q.2, subst (Mapped s child) (sym (zero-add q.0)) (counted_mapped s child q.0 q.3)))

@@ -101,7 +101,7 @@ module _ (s : Store) (parent child size : ℕ) where
 
   module _ (r : RootReady s parent) where
     to3 : (n : ℕ) → Smallest From3 n → Smallest R n
-    to3 = then_judged F split join (root_clear s parent r) (λ f. f)
+    to3 = then_judged split join (root_clear s parent r) (λ f. f)
 
     pub no_3 : (mark s.tmarks child ≡ 1 → ⊥) → Smallest R 3
     no_3 h = to3 3 (just_found 3 (mark s.tmarks child ≡ 1 → ⊥) above3 (omega arith) h)

@@ -10,7 +10,7 @@ use Rattle.page_table_entry.specs.Layout.{bit_u}
 use Rattle.store.specs.Store.{Store}
 use Rattle.store.specs.Walk.{resolve}
 use Rattle.store.specs.Outcome.{NoReason, Smallest}
-use Rattle.store.proofs.Outcomes.{first_no}
+use Rattle.store.proofs.Outcomes.{first_found}
 use Rattle.well_formed.specs.Root.{RootReason, RootReady}
 use Rattle.well_formed.proofs.RootReasons.{root_upto, root_clear}
 use Rattle.walk.specs.Mapped.{Mapped}
@@ -46,7 +46,7 @@ module _ (s : Store) (root va n : ℕ) where
   copy_where f clear = record { at_root = f; pages = λ i x. page_where s root (va + i) (λ k h. clear k (page i x h)) }
 
   pub by_root : (m : ℕ) → Smallest (RootReason s root) m → Smallest R m
-  by_root m h q = first_no F split (λ k. at_root) (λ j k a b. omega (arith, root_upto a, page_range b.2)) m h (q.reason h)
+  by_root = first_found split (λ k. at_root) (λ j k a b. omega (arith, root_upto a, page_range b.2))
 
   module _ (f : RootReady s root) where
     abbrev Low : Type 0

@@ -50,7 +50,7 @@ module _ (s : Store) (r p e : ℕ) (l : p ≤ e) where
   least n m f t k q (no_tables h) = omega (arith, t q)
 
   module _ (c : ℕ) (count : PagesAlike s.words r p e 1 1 c) where
-    pub no_14 : Smallest R 14
+    pub no_14 : (c ≡ 0 → ⊥) → Smallest R 14
     no_14 h =
         let q = one_has g 1 1 p e c l count (omega arith) in
         let x : q.0 ≡ p + (q.0 - p) = omega (arith, q.1) in

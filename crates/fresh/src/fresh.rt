@@ -10,12 +10,7 @@ use refusal::Refusal;
 use store::Store;
 
 // 14, 16 or 17, or 0, for the pages from first up to end.
-pub fn judge_fresh(
-    store: &Store,
-    root: usize,
-    first: usize,
-    end: usize,
-) -> Result<(), Refusal>
+pub fn judge_fresh(store: &Store, root: usize, first: usize, end: usize) -> Result<(), Refusal>
     requires { Asked (seen store.now) root first (end - first) × (first ≤ end) }
     ensures { Judges
         (FreshReason (seen store.now) root first (end - first))
@@ -28,7 +23,10 @@ pub fn judge_fresh(
     if !store::enough_free(store.fmarks, end - first) {
         return Err(Refusal::TooFewFrames);
     }
-    if !store::enough_free(store.tmarks, walk::missing_tables(store.words, root, first, end)) {
+    if !store::enough_free(
+        store.tmarks,
+        walk::missing_tables(store.words, root, first, end),
+    ) {
         return Err(Refusal::TooFewTables);
     }
     Ok(())

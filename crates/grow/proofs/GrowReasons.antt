@@ -5,7 +5,7 @@ use Prim.Native.Nat.{ℕ, ◌-◌, ◌≤◌, ◌<◌}
 use native.Mathlib.Omega.{arith}
 use Rattle.store.specs.Store.{Store}
 use Rattle.store.specs.Outcome.{NoReason, Smallest}
-use Rattle.store.proofs.Outcomes.{first_no, then_judged}
+use Rattle.store.proofs.Outcomes.{first_found, then_judged}
 use Rattle.well_formed.specs.Root.{Asked}
 use Rattle.shrink.specs.Sizes.{pages_to, SizeReason, SizeReady}
 use Rattle.fresh.specs.Fresh.{FreshReason, FreshReady}
@@ -25,7 +25,7 @@ module _ (s : Store) (root old new : ℕ) where
   split k (pages h) = inr h
 
   pub by_sizes : (n : ℕ) → Smallest (SizeReason s root old new) n → Smallest R n
-  by_sizes n h q = first_no F split (λ k. sizes) (λ j k a b. omega (arith, size_upto a, fresh_range b)) n h (q.reason h)
+  by_sizes = first_found split (λ k. sizes) (λ j k a b. omega (arith, size_upto a, fresh_range b))
 
   -- the judge of pages is asked about those from first up to end
   module _ (z : SizeReady s root old new) (first end : ℕ) (ef : first ≡ pages_to old) (ee : end ≡ pages_to new) where
@@ -34,7 +34,7 @@ module _ (s : Store) (root old new : ℕ) where
 
     pub by_pages : (n : ℕ) → Smallest (FreshReason s root first (end - first)) n → Smallest R n
     by_pages n q =
-        then_judged F split (λ k. pages) (size_clear s root old new z) (λ f. record { sizes = z; pages = f }) n
+        then_judged split (λ k. pages) (size_clear s root old new z) (λ f. record { sizes = z; pages = f }) n
         (subst₂ (λ (x y : ℕ). Smallest (FreshReason s root x (y - x)) n) ef ee q)
 
     pub no_pages : end ≤ first → F

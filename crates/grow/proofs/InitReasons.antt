@@ -7,7 +7,7 @@ use native.Mathlib.Omega.{arith}
 use lib.ListN.{length}
 use Rattle.store.specs.Store.{Store}
 use Rattle.store.specs.Outcome.{NoReason, Smallest}
-use Rattle.store.proofs.Outcomes.{Just, first_no, then_judged, just_no}
+use Rattle.store.proofs.Outcomes.{Just, first_found, then_judged, just_one}
 use Rattle.well_formed.specs.Root.{RootReason, RootReady, Asked}
 use Rattle.well_formed.proofs.RootReasons.{root_upto, root_clear}
 use Rattle.fresh.specs.Fresh.{FreshReason, FreshReady}
@@ -38,12 +38,12 @@ module _ (s : Store) (root : ℕ) (src : List ℕ) where
   join k (inr h) = page h
 
   pub by_root : (n : ℕ) → Smallest (RootReason s root) n → Smallest R n
-  by_root n h q = first_no F split (λ k. at_root) (λ j k a b. omega (arith, root_upto a, above k b)) n h (q.reason h)
+  by_root = first_found split (λ k. at_root) (λ j k a b. omega (arith, root_upto a, above k b))
 
   module _ (r : RootReady s root) where
     pub no_5 : 4096 ≤ length src → Smallest R 5
     no_5 h =
-        then_judged F split join (root_clear s root r) (λ f. f) 5
+        then_judged split join (root_clear s root r) (λ f. f) 5
         (first_no F (λ k x. x) (λ k. inl) (λ j k a b. omega (arith, a.0, fresh_range b)) 5 (omega arith) ((just_no 5 (4096 ≤ length src) F (omega arith) h).reason (omega arith)))
 
     pub asked : Asked s root 0 (1 - 0)
@@ -51,7 +51,7 @@ module _ (s : Store) (root : ℕ) (src : List ℕ) where
 
     pub by_page : length src < 4096 → (n : ℕ) → Smallest (FreshReason s root 0 1) n → Smallest R n
     by_page h n q =
-        then_judged F split join (root_clear s root r) (λ f. record { at_root = r; short = h; page = f }) n
+        then_judged split join (root_clear s root r) (λ f. record { at_root = r; short = h; page = f }) n
         (then_judged (FreshReady s root 0 1) (λ k x. x) (λ k. inr) (λ k x. omega (arith, x.1)) (λ f. f) n q)
 
   -- where the call is ready no reason applies

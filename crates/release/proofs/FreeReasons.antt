@@ -6,7 +6,7 @@ use native.Mathlib.Omega.{arith}
 use lib.Bits.{bit_and}
 use Rattle.store.specs.Store.{Store}
 use Rattle.store.specs.Outcome.{NoReason, Smallest}
-use Rattle.store.proofs.Outcomes.{Just, first_no, then_judged, just_no}
+use Rattle.store.proofs.Outcomes.{Just, first_found, then_judged, just_one, then_found}
 use Rattle.store.proofs.Scans.{in_range}
 use Rattle.well_formed.specs.Root.{RootReason, RootReady}
 use Rattle.well_formed.proofs.RootReasons.{root_upto, root_clear}
@@ -41,7 +41,7 @@ module _ (s : Store) (root : ℕ) where
   clear f k (mapped h) = f.unmapped h
 
   pub by_root : (n : ℕ) → Smallest (RootReason s root) n → Smallest R n
-  by_root n h q = first_no F split (λ k. at_root) (λ j k a b. omega (arith, root_upto a, b.0)) n h (q.reason h)
+  by_root = first_found split (λ k. at_root) (λ j k a b. omega (arith, root_upto a, b.0))
 
   -- what the count of pages asks
   pub can_count : RootReady s root → (root < 512) × (0 ≤ 2 ^ 26) × (2 ^ 26 ≤ 2 ^ 26) × (0 < 1)
@@ -49,14 +49,14 @@ module _ (s : Store) (root : ℕ) where
 
   -- a root with a mapped page
   pub still_mapped : RootReady s root → Some → Smallest R 18
-  still_mapped r m = then_judged F split eighteen (root_clear s root r) (λ f. f) 18 (just_no 18 Some F (omega arith) m)
+  still_mapped r m = then_found split eighteen (root_clear s root r) 18 (just_one 18 Some m)
 
   -- n pages of the root are mapped
   module _ (r : RootReady s root) (n : ℕ) (c : PagesAlike s.words root 0 (2 ^ 26) 1 1 n) where
     some : (k : ℕ) × (0 ≤ k) × (k < 2 ^ 26) × (bit_and (entry_in s.words root 2 k) 1 ≡ 1) → Some
     some (k, l, h, b) = (k, h, counted_mapped s root k b)
 
-    pub no_18 : Smallest R 18
+    pub no_18 : (n ≡ 0 → ⊥) → Smallest R 18
     no_18 h = still_mapped r (some (one_has (entry_in s.words root 2) 1 1 0 (2 ^ 26) n (omega arith) c (omega arith)))
 
     none : n ≡ 0 → Some → ⊥

@@ -73,7 +73,12 @@ pub fn free(
         (store_of words.old tmarks.old bytes.now fmarks.now) root result
         (store_of words.new tmarks.new bytes.now fmarks.now) }
 {
-    let store = Store { words, tmarks, bytes, fmarks };
+    let store = Store {
+        words,
+        tmarks,
+        bytes,
+        fmarks,
+    };
     judge_free(&store, root)?;
     Ok(free_table(words, tmarks, root as usize, 2) as u64)
 }

@@ -4,9 +4,11 @@ use mathlib.Core.Logic.{◌⊎◌, inl, inr}
 use mathlib.Core.Bool.{true}
 use Prim.Native.Nat.{ℕ, ◌-◌, ◌≤◌, ◌<◌}
 use native.Mathlib.Omega.{arith}
+use Rattle.std.specs.Prelude.{Result}
+use Rattle.refusal.specs.declared.Refusal.{Refusal}
 use Rattle.store.specs.Store.{Store}
-use Rattle.store.specs.Outcome.{NoReason, Smallest}
-use Rattle.store.proofs.Outcomes.{first_no, then_judged}
+use Rattle.store.specs.Outcome.{NoReason, Smallest, Judges}
+use Rattle.store.proofs.Outcomes.{first_found, then_judged}
 use Rattle.well_formed.specs.Root.{Asked}
 use Rattle.unmap.specs.Leave.{LeaveReason, LeaveReady}
 use Rattle.unmap.proofs.UnmapReasons.{leave_range, leave_clear, leave_none}
@@ -26,17 +28,17 @@ module _ (s : Store) (root old new : ℕ) where
   split k (pages h) = inr h
 
   pub by_sizes : (n : ℕ) → Smallest (SizeReason s root old new) n → Smallest R n
-  by_sizes n h q = first_no F split (λ k. sizes) (λ j k a b. omega (arith, size_upto a, leave_range b)) n h (q.reason h)
+  by_sizes = first_found split (λ k. sizes) (λ j k a b. omega (arith, size_upto a, leave_range b))
 
   -- the judge of pages is asked about those from first up to end
   module _ (z : SizeReady s root old new) (first end : ℕ) (ef : first ≡ pages_to new) (ee : end ≡ pages_to old) where
     pub asked : first < end → Asked s root first (end - first) × (first ≤ end)
     asked h = let r = z.at_root in (record { at_root = r; pages = omega (arith, ee, z.old_small) }, omega arith)
 
-    pub by_pages : (n : ℕ) → Smallest (LeaveReason s root first (end - first) true) n → Smallest R n
+    pub by_pages : (n : Result Unit Refusal) → Judges (LeaveReason s root first (end - first) true) (LeaveReady s root first (end - first) true) n → Judges R F n
     by_pages n q =
-        then_judged F split (λ k. pages) (size_clear s root old new z) (λ f. record { sizes = z; pages = f }) n
-        (subst₂ (λ (x y : ℕ). Smallest (LeaveReason s root x (y - x) true) n) ef ee q)
+        then_judged split (λ k. pages) (size_clear s root old new z) (λ f. record { sizes = z; pages = f }) n
+        (subst₂ (λ (x y : ℕ). Judges (LeaveReason s root x (y - x) true) (LeaveReady s root x (y - x) true) n) ef ee q)
 
     pub no_pages : end ≤ first → F
     no_pages h = record { sizes = z; pages = leave_none s root (pages_to new) (lost old new) true (omega (arith, ef, ee)) }

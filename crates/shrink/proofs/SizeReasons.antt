@@ -5,7 +5,7 @@ use Prim.Native.Nat.{ℕ, ◌^◌, ◌≤◌}
 use native.Mathlib.Omega.{arith}
 use Rattle.store.specs.Store.{Store}
 use Rattle.store.specs.Outcome.{NoReason, Smallest}
-use Rattle.store.proofs.Outcomes.{Just, first_no, then_judged, just_no}
+use Rattle.store.proofs.Outcomes.{Just, first_found, then_judged, just_one, then_found}
 use Rattle.well_formed.specs.Root.{RootReason, RootReady}
 use Rattle.well_formed.proofs.RootReasons.{root_upto, root_clear}
 use Rattle.shrink.specs.Sizes.{TooLarge, SizeReason, at_root, too_large, SizeReady}
@@ -32,14 +32,14 @@ module _ (s : Store) (root old new : ℕ) where
   size_clear f k (too_large h) = ⊎_elim (λ q. omega (arith, f.old_small)) (λ q. omega (arith, f.new_small)) h
 
   pub by_root : (n : ℕ) → Smallest (RootReason s root) n → Smallest R n
-  by_root n h q = first_no F split (λ k. at_root) (λ j k a b. omega (arith, root_upto a, b.0)) n h (q.reason h)
+  by_root = first_found split (λ k. at_root) (λ j k a b. omega (arith, root_upto a, b.0))
 
   module _ (r : RootReady s root) where
     six : (k : ℕ) → Just 6 (TooLarge old new) k → R k
     six k (e, h) = rw e (too_large h)
 
     pub no_6 : TooLarge old new → Smallest R 6
-    no_6 h = then_judged F split six (root_clear s root r) (λ f. f) 6 (just_no 6 (TooLarge old new) F (omega arith) h)
+    no_6 h = then_found split six (root_clear s root r) 6 (just_one 6 (TooLarge old new) h)
 
     pub all_small : old ≤ 2 ^ 38 → new ≤ 2 ^ 38 → F
     all_small o n = record { at_root = r; old_small = o; new_small = n }

@@ -7,12 +7,7 @@ use super::sizes;
 use refusal::Refusal;
 use store::Store;
 
-fn judge_shrink(
-    store: &Store,
-    root: u64,
-    old: u64,
-    new: u64,
-) -> Result<(), Refusal>
+fn judge_shrink(store: &Store, root: u64, old: u64, new: u64) -> Result<(), Refusal>
     ensures { Judges
         (ShrinkReason (seen store.now) root old new)
         (ShrinkReady (seen store.now) root old new)
@@ -24,13 +19,7 @@ fn judge_shrink(
     if end <= first {
         return Ok(());
     }
-    unmap::judge_leave(
-        store,
-        root as usize,
-        first,
-        end,
-        true,
-    )
+    unmap::judge_leave(store, root as usize, first, end, true)
 }
 
 // The pages that old bytes take and new bytes do not leave the root, and their pool frames are given back.
@@ -47,7 +36,12 @@ pub fn uvm_dealloc(
         (store_of words.old tmarks.now bytes.now fmarks.old) root old new result
         (store_of words.new tmarks.now bytes.now fmarks.new) }
 {
-    let store = Store { words, tmarks, bytes, fmarks };
+    let store = Store {
+        words,
+        tmarks,
+        bytes,
+        fmarks,
+    };
     judge_shrink(&store, root, old, new)?;
     let first = sizes::pages_to(new);
     let end = sizes::pages_to(old);

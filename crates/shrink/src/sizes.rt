@@ -9,12 +9,7 @@ use refusal::Refusal;
 use store::Store;
 
 // 1, 2, 3 or 6, or 0.
-pub fn judge_sizes(
-    store: &Store,
-    root: u64,
-    old: u64,
-    new: u64,
-) -> Result<(), Refusal>
+pub fn judge_sizes(store: &Store, root: u64, old: u64, new: u64) -> Result<(), Refusal>
     ensures { Judges
         (SizeReason (seen store.now) root old new)
         (SizeReady (seen store.now) root old new)
