@@ -23,9 +23,6 @@ module _ (s : Store) (root va : ℕ) (b : List ℕ) where
 
   -- ---- copy_in
 
-  pub in_refused : (k : ℕ) → Smallest R k → (k ≡ 0 → ⊥) → In s root va b (Err k) b
-  in_refused k j h = (j.reason h, refl)
-
   pub in_done : F → (b' : List ℕ) → b' ≡ bytes_at s root va (length b) → In s root va b (Ok 0) b'
   in_done f b' e = (copy_clear s root va (length b) f, (refl, e))
 
@@ -34,9 +31,6 @@ module _ (s : Store) (root va : ℕ) (b : List ℕ) where
   one_in = one_outcome R (InDone s root va b) (λ v v' t t' x y. (x.0 ∙ sym y.0, x.1 ∙ sym y.1)) b
 
   -- ---- copy_out
-
-  pub out_refused : (k : ℕ) → Smallest R k → (k ≡ 0 → ⊥) → Out s root va b (Err k) s
-  out_refused k j h = (j.reason h, refl)
 
   pub out_done : F → (bs' : List ℕ) → bs' ≡ written s root va b s.bytes → Out s root va b (Ok 0) (store_of s.words s.tmarks bs' s.fmarks)
   out_done f bs' e = (copy_clear s root va (length b) f, (refl, ap (λ (x : List ℕ). store_of s.words s.tmarks x s.fmarks) e))

@@ -103,12 +103,12 @@ module _ (s : Store) (root va : ℕ) (f : RootReady s root) (src : List ℕ) (v 
   out_moved = subst (MovedOut s root va src) (sym u.1.1) (moved s root va src ready)
 
   -- a copy of as many bytes back into the kernel is not refused, and gives the source
-  pub round_trip : (dst : List ℕ) → length dst ≡ length src → (a : Result ℕ Refusal) (dst' : List ℕ) → In s' root va dst a dst' → (a ≡ Done 0) × (dst' ≡ src)
+  pub round_trip : (dst : List ℕ) → length dst ≡ length src → (a : Result ℕ Refusal) (dst' : List ℕ) → In s' root va dst a dst' → (a ≡ Ok 0) × (dst' ≡ src)
   round_trip dst e (Err k) dst' q =
       let c : CopyReady s' root va (length dst) =
       subst (λ (t : Store). CopyReady t root va (length dst)) (sym u.1.1)
       (copy_kept s (written s root va src s.bytes) root va (length dst) (as_long s root va src ready) (subst (CopyReady s root va) (sym e) ready)) in
-      absurd (copy_clear s' root va (length dst) c k q.0.applies)
+      absurd (copy_clear s' root va (length dst) c _ q.0.applies)
   round_trip dst e (Ok w) dst' q =
       let m = in_moved s' root va dst w dst' q in
-      (ap Done q.1.0, ext_get_or 0 dst' src (m.size ∙ e) (λ i l. m.bytes i (omega (arith, m.size)) ∙ out_moved.bytes i (omega (arith, m.size))))
+      (ap Ok q.1.0, ext_get_or 0 dst' src (m.size ∙ e) (λ i l. m.bytes i (omega (arith, m.size)) ∙ out_moved.bytes i (omega (arith, m.size))))

@@ -16,12 +16,7 @@ pub fn place(words: &[u64], root: usize, a: u64) -> usize
 }
 
 // The bytes from va on go to the buffer.
-pub fn read_bytes(
-    store: &Store,
-    root: usize,
-    va: u64,
-    dst: &mut [u8],
-)
+pub fn read_bytes(store: &Store, root: usize, va: u64, dst: &mut [u8])
     requires { CopyReady (seen store.now) root va (length dst.old) }
     ensures { dst.new ≡ bytes_at (seen store.now) root va (length dst.old) }
 {

@@ -8,12 +8,7 @@ use refusal::Refusal;
 use store::Store;
 
 // The bytes from va on go to the buffer, as many as it is long.
-pub fn copy_in(
-    store: &Store,
-    root: u64,
-    va: VirtualAddress,
-    dst: &mut [u8],
-) -> Result<u64, Refusal>
+pub fn copy_in(store: &Store, root: u64, va: VirtualAddress, dst: &mut [u8]) -> Result<u64, Refusal>
     ensures { In (seen store.now) root va.0 dst.old result dst.new }
 {
     needed::judge_copy(store, root, va.0, dst.len())?;
@@ -35,7 +30,12 @@ pub fn copy_out(
         (store_of words.now tmarks.now bytes.old fmarks.now) root va.0 src.now result
         (store_of words.now tmarks.now bytes.new fmarks.now) }
 {
-    let store = Store { words, tmarks, bytes, fmarks };
+    let store = Store {
+        words,
+        tmarks,
+        bytes,
+        fmarks,
+    };
     needed::judge_copy(&store, root, va.0, src.len())?;
     user::write_bytes(words, tmarks, bytes, fmarks, root as usize, va.0, src);
     Ok(0)

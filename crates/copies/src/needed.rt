@@ -16,11 +16,7 @@ const V: u64 = 1;
 const U: u64 = 16;
 
 // 6, 11, 12 or 15, or 0, for the page of address a.
-pub fn judge_page(
-    store: &Store,
-    root: usize,
-    a: u64,
-) -> Result<(), Refusal>
+pub fn judge_page(store: &Store, root: usize, a: u64) -> Result<(), Refusal>
     requires { RootReady (seen store.now) root }
     ensures { Judges
         (PageReason (seen store.now) root a)
@@ -30,7 +26,10 @@ pub fn judge_page(
     if a >= MAXVA {
         return Err(Refusal::TooHigh);
     }
-    let e = walk::slot_word(store.words, walk::slot_of(store.words, root, (a / 4096) as usize));
+    let e = walk::slot_word(
+        store.words,
+        walk::slot_of(store.words, root, (a / 4096) as usize),
+    );
     if e & V != V {
         return Err(Refusal::NotMapped);
     }
@@ -55,12 +54,7 @@ fn pages_end(va: u64, n: u64) -> usize
 }
 
 // The smallest refusal that applies to n bytes from va on, or 0.
-pub fn judge_copy(
-    store: &Store,
-    root: u64,
-    va: u64,
-    n: usize,
-) -> Result<(), Refusal>
+pub fn judge_copy(store: &Store, root: u64, va: u64, n: usize) -> Result<(), Refusal>
     ensures { Judges
         (CopyReason (seen store.now) root va n)
         (CopyReady (seen store.now) root va n)

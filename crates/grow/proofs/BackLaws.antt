@@ -114,9 +114,9 @@ module _ (s : Store) (root old new : ℕ) (a : Asked s root (pages_to old) (gain
     }
 
   -- it answers old, and everything is as before
-  pub grown_back : old ≤ new → (r : Result ℕ Refusal) (s₂ : Store) → Shrink s₁ root new old r s₂ → (r ≡ Done old) × Back s root (pages_to old) (gained old new) s₂
-  grown_back h (Err k) s₂ x = absurd (back_taken k x.0.applies)
+  pub grown_back : old ≤ new → (r : Result ℕ Refusal) (s₂ : Store) → Shrink s₁ root new old r s₂ → (r ≡ Ok old) × Back s root (pages_to old) (gained old new) s₂
+  grown_back h (Err k) s₂ x = absurd (back_taken _ x.0.applies)
   grown_back h (Ok w) s₂ x = (
-    ap Done (x.1.0 ∙ answer old new h),
+    ap Ok (x.1.0 ∙ answer old new h),
     back s₂ (shrink_gone s₁ root new old w s₂ (record { at_root = at_root₁; pages = a.pages }) x),
   )

@@ -3,8 +3,10 @@ use mathlib.Core.Path.{◌≡◌, refl, subst₂}
 use mathlib.Core.Logic.{◌⊎◌, inl, inr}
 use Prim.Native.Nat.{ℕ, ◌-◌, ◌≤◌, ◌<◌}
 use native.Mathlib.Omega.{arith}
+use Rattle.std.specs.Prelude.{Result}
+use Rattle.refusal.specs.declared.Refusal.{Refusal}
 use Rattle.store.specs.Store.{Store}
-use Rattle.store.specs.Outcome.{NoReason, Smallest}
+use Rattle.store.specs.Outcome.{NoReason, Smallest, Judges}
 use Rattle.store.proofs.Outcomes.{first_found, then_judged}
 use Rattle.well_formed.specs.Root.{Asked}
 use Rattle.shrink.specs.Sizes.{pages_to, SizeReason, SizeReady}
@@ -32,10 +34,10 @@ module _ (s : Store) (root old new : ℕ) where
     pub asked : first < end → Asked s root first (end - first) × (first ≤ end)
     asked h = let r = z.at_root in (record { at_root = r; pages = omega (arith, ee, z.new_small) }, omega arith)
 
-    pub by_pages : (n : ℕ) → Smallest (FreshReason s root first (end - first)) n → Smallest R n
+    pub by_pages : (n : Result Unit Refusal) → Judges (FreshReason s root first (end - first)) (FreshReady s root first (end - first)) n → Judges R F n
     by_pages n q =
         then_judged split (λ k. pages) (size_clear s root old new z) (λ f. record { sizes = z; pages = f }) n
-        (subst₂ (λ (x y : ℕ). Smallest (FreshReason s root x (y - x)) n) ef ee q)
+        (subst₂ (λ (x y : ℕ). Judges (FreshReason s root x (y - x)) (FreshReady s root x (y - x)) n) ef ee q)
 
     pub no_pages : end ≤ first → F
     no_pages h = record { sizes = z; pages = fresh_none s root (pages_to old) (gained old new) (omega (arith, ef, ee)) }

@@ -5,9 +5,12 @@ use mathlib.Core.List.{List}
 use Prim.Native.Nat.{ℕ, ◌-◌, ◌≤◌, ◌<◌}
 use native.Mathlib.Omega.{arith}
 use lib.ListN.{length}
+use Rattle.std.specs.Prelude.{Result, Ok, Err}
+use Rattle.refusal.specs.declared.Refusal.{Refusal}
+use Rattle.refusal.specs.Number.{number_of}
 use Rattle.store.specs.Store.{Store}
-use Rattle.store.specs.Outcome.{NoReason, Smallest}
-use Rattle.store.proofs.Outcomes.{Just, first_found, then_judged, just_one}
+use Rattle.store.specs.Outcome.{NoReason, Smallest, Judges}
+use Rattle.store.proofs.Outcomes.{Just, first_found, then_found, just_one}
 use Rattle.well_formed.specs.Root.{RootReason, RootReady, Asked}
 use Rattle.well_formed.proofs.RootReasons.{root_upto, root_clear}
 use Rattle.fresh.specs.Fresh.{FreshReason, FreshReady}
@@ -43,16 +46,14 @@ module _ (s : Store) (root : ℕ) (src : List ℕ) where
   module _ (r : RootReady s root) where
     pub no_5 : 4096 ≤ length src → Smallest R 5
     no_5 h =
-        then_judged split join (root_clear s root r) (λ f. f) 5
-        (first_no F (λ k x. x) (λ k. inl) (λ j k a b. omega (arith, a.0, fresh_range b)) 5 (omega arith) ((just_no 5 (4096 ≤ length src) F (omega arith) h).reason (omega arith)))
+        then_found split join (root_clear s root r) 5 (first_found (λ k x. x) (λ k. inl) (λ j k a b. omega (arith, a.0, fresh_range b)) 5 (just_one 5 (4096 ≤ length src) h))
 
     pub asked : Asked s root 0 (1 - 0)
     asked = record { at_root = r; pages = omega arith }
 
-    pub by_page : length src < 4096 → (n : ℕ) → Smallest (FreshReason s root 0 1) n → Smallest R n
-    by_page h n q =
-        then_judged split join (root_clear s root r) (λ f. record { at_root = r; short = h; page = f }) n
-        (then_judged (FreshReady s root 0 1) (λ k x. x) (λ k. inr) (λ k x. omega (arith, x.1)) (λ f. f) n q)
+    pub by_page : length src < 4096 → (n : Result Unit Refusal) → Judges (FreshReason s root 0 1) (FreshReady s root 0 1) n → Judges R F n
+    by_page h (Ok u) f = record { at_root = r; short = h; page = f }
+    by_page h (Err k) m = then_found split join (root_clear s root r) (number_of k) (then_found (λ k x. x) (λ k. inr) (λ k x. omega (arith, x.1)) (number_of k) m)
 
   -- where the call is ready no reason applies
   pub clear : F → NoReason R

@@ -8,12 +8,7 @@ ghost use Rattle.grow.specs.Grow.{zeroed, GrowReason, GrowReady, Grow};
 use refusal::Refusal;
 use store::Store;
 
-fn judge_grow(
-    store: &Store,
-    root: u64,
-    old: u64,
-    new: u64,
-) -> Result<(), Refusal>
+fn judge_grow(store: &Store, root: u64, old: u64, new: u64) -> Result<(), Refusal>
     ensures { Judges
         (GrowReason (seen store.now) root old new)
         (GrowReady (seen store.now) root old new)
@@ -66,7 +61,12 @@ pub fn uvm_alloc(
         (store_of words.old tmarks.old bytes.old fmarks.old) root old new result
         (store_of words.new tmarks.new bytes.new fmarks.new) }
 {
-    let store = Store { words, tmarks, bytes, fmarks };
+    let store = Store {
+        words,
+        tmarks,
+        bytes,
+        fmarks,
+    };
     judge_grow(&store, root, old, new)?;
     let first = shrink::pages_to(old);
     let end = shrink::pages_to(new);

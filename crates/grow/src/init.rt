@@ -7,11 +7,7 @@ ghost use Rattle.grow.specs.Init.{padded, InitReason, InitReady, Init};
 use refusal::Refusal;
 use store::Store;
 
-fn judge_init(
-    store: &Store,
-    root: u64,
-    src: &[u8],
-) -> Result<(), Refusal>
+fn judge_init(store: &Store, root: u64, src: &[u8]) -> Result<(), Refusal>
     ensures { Judges
         (InitReason (seen store.now) root src.now)
         (InitReady (seen store.now) root src.now)
@@ -47,7 +43,12 @@ pub fn uvm_init(
         (store_of words.old tmarks.old bytes.old fmarks.old) root src.now result
         (store_of words.new tmarks.new bytes.new fmarks.new) }
 {
-    let store = Store { words, tmarks, bytes, fmarks };
+    let store = Store {
+        words,
+        tmarks,
+        bytes,
+        fmarks,
+    };
     judge_init(&store, root, src)?;
     let f = fresh::enter_frame(words, tmarks, fmarks, root as usize, 0, 31, 0);
     write_frame(&mut bytes[4096 * f..4096 * f + 4096], src);
