@@ -14,7 +14,7 @@ use Rattle.store.specs.Outcome.{Smallest, NoReason, Outcome, Judges}
 abbrev pub Just : ℕ → Type 0 → ℕ → Type 0
 Just n P k = (k ≡ n) × P
 
-one_smallest : (R : ℕ → Type 0) (m n : ℕ) → Smallest R m → Smallest R n → m ≡ n
+pub one_smallest : (R : ℕ → Type 0) (m n : ℕ) → Smallest R m → Smallest R n → m ≡ n
 one_smallest R m n p q =
     by_cases (dec_lt m n) (λ l. absurd (q.least m l p.applies))
     (λ g. by_cases (dec_lt n m) (λ l. absurd (p.least n l q.applies)) (λ h. omega arith))

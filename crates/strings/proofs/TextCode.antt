@@ -21,7 +21,7 @@ use Rattle.walk.specs.Mapped.{Mapped}
 use Rattle.unmap.specs.Leave.{PoolFrame}
 use Rattle.copies.specs.Bytes.{place_at, byte_at}
 use Rattle.copies.specs.Needed.{PageReason, too_high, PageReady, Needs}
-use Rattle.strings.specs.Str.{Passed, StrReason, at_root, page, str_length, Measures}
+use Rattle.strings.specs.Str.{Passed, StrReason, at_root, page, str_length, Measured}
 use Rattle.copies.proofs.BytesCode.{turn}
 use Rattle.copies.proofs.BytesLaws.{page_room, bytes_page}
 use Rattle.copies.proofs.PageReasons.{page_clear}
@@ -59,11 +59,9 @@ module _ (s : Store) (root va max : ℕ) where
 
   -- m bytes are passed, and the way ends there
   module _ (f : RootReady s root) (m : ℕ) (p : (j : ℕ) → j < m → Passed s root (va + j)) where
-      refused = λ _. record { applies = page m d p q.applies; least = least };
-      clear = λ e. absurd (h e);
-      count = λ e. absurd (h e);
-      zero = λ e. absurd (h e);
-    }
+    -- the page of the next one cannot be read
+    pub refuse : Needs max m → (n : ℕ) → Smallest (PageReason s root (va + m)) n → Smallest (StrReason s root va max) n
+    refuse d n q = record { applies = page m d p q.applies; least = least }
       where
         least : (k : ℕ) → k < n → StrReason s root va max k → ⊥
         least k l (at_root x) = root_clear s root f k x
@@ -83,15 +81,10 @@ module _ (s : Store) (root va max : ℕ) where
           by_cases (dec_lt m i) (λ l. (p' m l).more (z (⊎_elim (λ h. omega arith) (λ h. omega arith) d')))
           (λ l. let e : i ≡ m = omega arith in c (subst (Needs max) e d') k (subst (λ (y : ℕ). PageReason s root (va + y) k) e x)))
 
-      pub ends : (met : Bool) → met ≡ ltb m max → Measures s root va max 0 m met
+      pub ends : (met : Bool) → met ≡ ltb m max → Measured s root va max m met
       ends met e =
           let n : m ≡ str_length s root va max = str_is s root va max m u (λ j l. (p j l).more) z in
-          record {
-            refused = λ h. absurd (h refl);
-            clear = λ _. none;
-            count = λ _. n;
-            zero = λ _. e ∙ ap (λ (x : ℕ). ltb x max) n ∙ sym (zero_met_lem s root va max);
-          }
+          record { clear = none; count = n; zero = e ∙ ap (λ (x : ℕ). ltb x max) n ∙ sym (zero_met_lem s root va max) }
 
   -- a turn: the page of byte i can be read, k bytes of it are looked at from the place of byte i on, and z is that of their first zero
   module _ (f : RootReady s root) (i : ℕ) (g : Following s root va max i) (p : PageReady s root (va + i)) where
@@ -129,7 +122,7 @@ module _ (s : Store) (root va max : ℕ) where
               more = λ x. str_before s root (va + i) k (j - i) (omega (arith, run)) (ap (byte_at s root) e ∙ x);
             })
 
-        pub met : z < k → Measures s root va max 0 (i + z) true
+        pub met : z < k → Measured s root va max (i + z) true
         met h =
             let e : va + (i + z) ≡ va + i + str_length s root (va + i) k = omega (arith, run) in
             ends f (i + z) further (omega (arith, within)) (λ _. page_clear (near (i + z) (omega arith) (inl (omega arith))))
@@ -141,7 +134,7 @@ module _ (s : Store) (root va max : ℕ) where
           all : (j : ℕ) → j < i + k → Passed s root (va + j)
           all j l = further j (omega arith)
 
-          pub whole : max ≤ i + k → Measures s root va max 0 (i + k) false
+          pub whole : max ≤ i + k → Measured s root va max (i + k) false
           whole l =
               ends f (i + k) all within (λ d. page_clear (near (i + k) (omega arith) (⊎_elim (λ b. absurd (omega arith)) (λ e. inr (omega arith)) d))) (λ b. absurd (omega arith))
               false

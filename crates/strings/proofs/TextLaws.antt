@@ -9,63 +9,53 @@ use lib.Dec.{ltb}
 use borrow.Author.Tests.{ltb-true, ltb-false}
 use lib.ListN.{length, get_or, take, drop, length-append, length-drop, get_or-append}
 use lib.Seq.{length-take-le, get_or-append-add, get_or-drop}
-use Rattle.std.specs.Prelude.{Result, Err}
+use Rattle.std.specs.Prelude.{Result, Ok, Err}
 use Rattle.refusal.specs.declared.Refusal.{Refusal}
+use Rattle.refusal.specs.Number.{number_of}
+use Rattle.refusal.proofs.Numbers.{one_number}
 use Rattle.store.specs.Store.{Store}
-use Rattle.store.specs.Outcome.{answer_said, Smallest}
-use Rattle.store.specs.declared.Answer.TheVariants as answer
-use Rattle.store.proofs.Outcomes.{one_outcome}
+use Rattle.store.proofs.Outcomes.{one_smallest}
 use Rattle.well_formed.specs.Root.{RootReason, RootReady}
 use Rattle.copies.specs.Bytes.{byte_at, bytes_at}
 use Rattle.copies.specs.Needed.{CopyReady}
-use Rattle.strings.specs.Str.{StrReason, StrDone, Measures, Str}
+use Rattle.strings.specs.Str.{StrReason, StrDone, Measured, Str}
 use Rattle.strings.specs.TextRead.{TextRead}
-use Rattle.strings.specs.declared.StrAnswer.{StrAnswer}
-use Rattle.strings.specs.declared.StrAnswer.TheVariants.{Read, Refused}
+use Rattle.strings.specs.declared.StrRead.{StrRead}
 use Rattle.copies.proofs.BytesLaws.{bytes_length, bytes_get}
 use Rattle.strings.proofs.StrLaws.{zero_met_lem, str_le, str_before, str_zero}
-use Rattle.strings.proofs.TextReasons.{by_root, str_pages}
+use Rattle.strings.proofs.TextReasons.{str_pages}
 
 module _ (s : Store) (root va : ℕ) (dst : List ℕ) where
-  pub refuse_root : (k : ℕ) → Smallest (RootReason s root) k → (k ≡ 0 → ⊥) → Str s root va dst (Err k) dst
-  refuse_root k j h = (by_root s root va (length dst) k (j.reason h), refl)
+  module _ (n : ℕ) (met : Bool) (m : Measured s root va (length dst) n met) where
+    pub within : n ≤ length dst
+    within = omega (arith, m.count, str_le s root va (length dst))
 
-  module _ (k n : ℕ) (met : Bool) (m : Measures s root va (length dst) k n met) where
-    pub refuse_way : (k ≡ 0 → ⊥) → Str s root va dst (Err k) dst
-    refuse_way h = (m.refused h, refl)
+    part : length (take n dst) ≡ n
+    part = length-take-le n dst within
 
-    module _ (e : k ≡ 0) where
-      pub within : n ≤ length dst
-      within = omega (arith, m.count e, str_le s root va (length dst))
+    pub may_read : RootReady s root → CopyReady s root va (length (take n dst))
+    may_read f = record {
+      at_root = f;
+      pages = λ i d.
+          str_pages s root va (length dst) (m.clear) i (⊎_elim (λ l. omega (arith, part, m.count)) (λ q. omega arith) d)
+          (⊎_elim (λ l. inl (omega (arith, part, within))) inr d);
+    }
 
-      part : length (take n dst) ≡ n
-      part = length-take-le n dst within
-
-      pub may_read : RootReady s root → CopyReady s root va (length (take n dst))
-      may_read f = record {
-        at_root = f;
-        pages = λ i d.
-            str_pages s root va (length dst) (m.clear e) i (⊎_elim (λ l. omega (arith, part, m.count e)) (λ q. omega arith) d)
-            (⊎_elim (λ l. inl (omega (arith, part, within))) inr d);
-      }
-
-      pub done : (x : List ℕ) → x ≡ bytes_at s root va (length (take n dst)) → Str s root va dst (Read n met) (x ++ drop n dst)
-      done x q = (m.clear e, record { count = m.count e; zero = m.zero e; buffer = ap (λ (y : List ℕ). y ++ drop n dst) (q ∙ ap (bytes_at s root va) part) })
+    pub done : (x : List ℕ) → x ≡ bytes_at s root va (length (take n dst)) → Str s root va dst (Ok (record { bytes = n; met = met })) (x ++ drop n dst)
+    done x q = (m.clear, record { count = m.count; zero = m.zero; buffer = ap (λ (y : List ℕ). y ++ drop n dst) (q ∙ ap (bytes_at s root va) part) })
 
   -- two answers to one call are the same, and so are the buffers
-  pub one_str : (a a' : StrAnswer) (t t' : List ℕ) → Str s root va dst a t → Str s root va dst a' t' → (a ≡ a') × (t ≡ t')
-  unfolding answer_said
-  one_str (Err m) (Err n) t t' p q =
-      let e = one_outcome (StrReason s root va (length dst)) (λ _ _. ⊥) (λ _ _ _ _ x _. absurd x) dst (answer.Refused m) (answer.Refused n) t t' p q in
-      (ap (λ (a : Result ℕ Refusal). Refused (answer_said a).number) e.0, e.1)
-  one_str (Err m) (Read n x) t t' p q = absurd (q.0 m p.0.applies)
-  one_str (Read n x) (Err m) t t' p q = absurd (p.0 m q.0.applies)
-  one_str (Read n x) (Read n' x') t t' p q =
-      let e : n ≡ n' = p.1.count ∙ sym q.1.count in
-      (ap₂ Read e (p.1.zero ∙ sym q.1.zero), p.1.buffer ∙ ap (λ (k : ℕ). bytes_at s root va k ++ drop k dst) e ∙ sym q.1.buffer)
+  pub one_str : (a a' : Result StrRead Refusal) (t t' : List ℕ) → Str s root va dst a t → Str s root va dst a' t' → (a ≡ a') × (t ≡ t')
+  one_str (Err m) (Err n) t t' p q = (ap Err (one_number m n (one_smallest (StrReason s root va (length dst)) (number_of m) (number_of n) p.0 q.0)), p.1 ∙ sym q.1)
+  one_str (Err m) (Ok x) t t' p q = absurd (q.0 (number_of m) p.0.applies)
+  one_str (Ok x) (Err m) t t' p q = absurd (p.0 (number_of m) q.0.applies)
+  one_str (Ok x) (Ok y) t t' p q =
+      let e : x.bytes ≡ y.bytes = p.1.count ∙ sym q.1.count in
+      let z : x.met ≡ y.met = p.1.zero ∙ sym q.1.zero in
+      (λ i. Ok (record { bytes = e i; met = z i }), p.1.buffer ∙ ap (λ (k : ℕ). bytes_at s root va k ++ drop k dst) e ∙ sym q.1.buffer)
 
   -- what a success means
-  module _ (n : ℕ) (met : Bool) (dst' : List ℕ) (u : Str s root va dst (Read n met) dst') where
+  module _ (n : ℕ) (met : Bool) (dst' : List ℕ) (u : Str s root va dst (Ok (record { bytes = n; met = met })) dst') where
     d : StrDone s root va dst n met dst'
     d = u.1
 

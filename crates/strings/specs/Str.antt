@@ -1,18 +1,19 @@
 -- `copy_in_str`: reading goes on up to the first zero byte or to the end of the buffer, and looks at no page behind that.
-use Rattle.std.specs.Prelude.{◌≡◌, Bool, true, false, cond, List, [], ◌∷◌, ◌++◌, ℕ, zero, suc, ◌+◌, ◌<◌, eqb, length, drop, Err}
+use Rattle.std.specs.Prelude.{◌≡◌, Bool, true, false, cond, List, [], ◌∷◌, ◌++◌, ℕ, zero, suc, ◌+◌, ◌<◌, eqb, length, drop, Result, Ok, Err}
+use Rattle.refusal.specs.declared.Refusal.{Refusal}
+use Rattle.refusal.specs.Number.{number_of}
 use Rattle.address.specs.Answer.{Said, refused}
 use Rattle.store.specs.Store.{Store}
 use Rattle.store.specs.Outcome.{Smallest, NoReason}
 use Rattle.well_formed.specs.Root.{RootReason}
-use Rattle.strings.specs.declared.StrAnswer.{StrAnswer}
-use Rattle.strings.specs.declared.StrAnswer.TheVariants.{Read, Refused}
+use Rattle.strings.specs.declared.StrRead.{StrRead}
 use Rattle.copies.specs.Bytes.{byte_at, bytes_at}
 use Rattle.copies.specs.Needed.{PageReason, Needs}
 
 -- what the answer of `copy_in_str` says on paper: the bytes written, and 1 where a zero was met and 0 where not
-unfoldable pub str_said : StrAnswer → Said
-str_said (Read n met) = record { number = 0; values = n ∷ cond met 1 0 ∷ [] }
-str_said (Err n) = refused n
+unfoldable pub str_said : Result StrRead Refusal → Said
+str_said (Ok r) = record { number = 0; values = r.bytes ∷ cond r.met 1 0 ∷ [] }
+str_said (Err k) = refused (number_of k)
 
 -- the byte at address a can be read and is not zero
 pub record Passed (s : Store) (r a : ℕ) : Type 0 where
@@ -39,14 +40,18 @@ pub record StrDone (s : Store) (root va : ℕ) (dst : List ℕ) (n : ℕ) (met :
   pub zero : met ≡ zero_met s root va (length dst)
   pub buffer : dst' ≡ bytes_at s root va n ++ drop n dst
 
--- what following the bytes says: the number of the first page's refusal, or 0 and the way
-pub record Measures (s : Store) (root va max no n : ℕ) (met : Bool) : Type 0 where
-  pub refused : (no ≡ 0 → ⊥) → Smallest (StrReason s root va max) no
-  pub clear : no ≡ 0 → NoReason (StrReason s root va max)
-  pub count : no ≡ 0 → n ≡ str_length s root va max
-  pub zero : no ≡ 0 → met ≡ zero_met s root va max
+-- where following the bytes meets no refusal: n of them come before the zero or the end
+pub record Measured (s : Store) (root va max n : ℕ) (met : Bool) : Type 0 where
+  pub clear : NoReason (StrReason s root va max)
+  pub count : n ≡ str_length s root va max
+  pub zero : met ≡ zero_met s root va max
+
+-- what following the bytes says: the first page's refusal, or the way
+abbrev pub Measures : Store → ℕ → ℕ → ℕ → Result StrRead Refusal → Type 0
+Measures s root va max (Err k) = Smallest (StrReason s root va max) (number_of k)
+Measures s root va max (Ok r) = Measured s root va max r.bytes r.met
 
 -- the store is lent for reading
-abbrev pub Str : Store → ℕ → ℕ → List ℕ → StrAnswer → List ℕ → Type 0
-Str s root va dst (Err k) dst' = Smallest (StrReason s root va (length dst)) k × (dst' ≡ dst)
-Str s root va dst (Read n met) dst' = NoReason (StrReason s root va (length dst)) × StrDone s root va dst n met dst'
+abbrev pub Str : Store → ℕ → ℕ → List ℕ → Result StrRead Refusal → List ℕ → Type 0
+Str s root va dst (Err k) dst' = Smallest (StrReason s root va (length dst)) (number_of k) × (dst' ≡ dst)
+Str s root va dst (Ok r) dst' = NoReason (StrReason s root va (length dst)) × StrDone s root va dst r.bytes r.met dst'

@@ -5,9 +5,9 @@ mod text;
 
 pub use text::copy_in_str;
 
-// What `copy_in_str` answers: how many bytes it wrote and whether it met a zero, or the number of a refusal.
-#[derive(Drop)]
-pub enum StrAnswer {
-    Read(u64, bool),
-    Refused(u64),
+// What `copy_in_str` read: how many bytes, and whether it met a zero behind them.
+#[derive(Clone, Copy)]
+pub struct StrRead {
+    pub bytes: usize,
+    pub met: bool,
 }

@@ -6,17 +6,10 @@ ghost use Rattle.store.specs.Store.{seen};
 ghost use Rattle.well_formed.specs.Root.{RootReady};
 ghost use Rattle.strings.specs.Str.{Str, Measures};
 
-use super::StrAnswer;
+use super::StrRead;
 use address::VirtualAddress;
+use refusal::Refusal;
 use store::Store;
-
-// What lies on the way: the number of a refusal, or 0, how many bytes come before the zero or the end, and whether a zero was met.
-#[derive(Drop)]
-struct Way {
-    no: u64,
-    n: usize,
-    met: bool,
-}
 
 // Whether no byte from a up to e is zero, where none before a is: their least, found without a branch for a byte.
 fn no_zero(part: &[u8], a: usize, e: usize) -> bool
@@ -78,43 +71,29 @@ fn first_zero(part: &[u8]) -> usize
 }
 
 // Follows at most max bytes from va on, page by page, up to the first zero.
-fn measure(
-    store: &Store,
-    root: usize,
-    va: u64,
-    max: usize,
-) -> Way
+fn measure(store: &Store, root: usize, va: u64, max: usize) -> Result<StrRead, Refusal>
     requires { RootReady (seen store.now) root }
-    ensures { Measures (seen store.now) root va max result.no result.n result.met }
+    ensures { Measures (seen store.now) root va max result }
 {
     let mut i = 0;
     loop {
         let a = va + (i as u64);
-        let no = copies::judge_page(store, root, a);
-        if no != 0 {
-            return Way {
-                no: no,
-                n: 0,
-                met: false,
-            };
-        }
+        copies::judge_page(store, root, a)?;
         let k = walk::lesser(4096 - (a % 4096) as usize, max - i);
         let from = copies::place(store.words, root, a);
         let z = first_zero(&store.bytes[from..from + k]);
         if z < k {
-            return Way {
-                no: 0,
-                n: i + z,
+            return Ok(StrRead {
+                bytes: i + z,
                 met: true,
-            };
+            });
         }
         i += k;
         if i >= max {
-            return Way {
-                no: 0,
-                n: i,
+            return Ok(StrRead {
+                bytes: i,
                 met: false,
-            };
+            });
         }
     }
 }
@@ -125,19 +104,12 @@ pub fn copy_in_str(
     root: u64,
     va: VirtualAddress,
     dst: &mut [u8],
-) -> StrAnswer
+) -> Result<StrRead, Refusal>
     ensures { Str (seen store.now) root va.0 dst.old result dst.new }
 {
-    let no = well_formed::judge_root(store, root);
-    if no != 0 {
-        return StrAnswer::Refused(no);
-    }
+    well_formed::judge_root(store, root)?;
     let r = root as usize;
-    let way = measure(store, r, va.0, dst.len());
-    if way.no != 0 {
-        return StrAnswer::Refused(way.no);
-    }
-    let n = way.n;
-    copies::read_bytes(store, r, va.0, &mut dst[..n]);
-    StrAnswer::Read(n as u64, way.met)
+    let read = measure(store, r, va.0, dst.len())?;
+    copies::read_bytes(store, r, va.0, &mut dst[..read.bytes]);
+    Ok(read)
 }
