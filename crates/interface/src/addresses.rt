@@ -4,8 +4,8 @@ ghost use Rattle.address.specs.Page.{down, up};
 ghost use Rattle.address.specs.Answer.{within64, at_least0, index_at};
 ghost use Rattle.replies.specs.Reply.{reply_of};
 
-use address::{PhysicalAddress, VirtualAddress};
-use replies::{Reply, number_reply, physical_reply, virtual_reply};
+use address::{Address, PhysicalAddress, VirtualAddress};
+use replies::Reply;
 
 pub fn ronakvesh_virtual_new(addr: u64) -> u64
     ensures { result ≡ addr }
@@ -22,7 +22,7 @@ pub fn ronakvesh_virtual_is_page_aligned(va: u64) -> bool
 pub fn ronakvesh_virtual_pg_round_up(va: u64) -> Reply
     ensures { result ≡ reply_of (within64 (up va)) }
 {
-    virtual_reply(VirtualAddress(va).pg_round_up())
+    Reply::from(VirtualAddress(va).pg_round_up())
 }
 
 pub fn ronakvesh_virtual_pg_round_down(va: u64) -> u64
@@ -34,7 +34,7 @@ pub fn ronakvesh_virtual_pg_round_down(va: u64) -> u64
 pub fn ronakvesh_virtual_add_page(va: u64) -> Reply
     ensures { result ≡ reply_of (within64 (va + 4096)) }
 {
-    virtual_reply(VirtualAddress(va).add_page())
+    Reply::from(VirtualAddress(va).add_page())
 }
 
 pub fn ronakvesh_virtual_compare(va: u64, other: u64) -> bool
@@ -52,25 +52,25 @@ pub fn ronakvesh_virtual_equal(va: u64, other: u64) -> bool
 pub fn ronakvesh_virtual_add_addr(va: u64, addr: u64) -> Reply
     ensures { result ≡ reply_of (within64 (va + addr)) }
 {
-    virtual_reply(VirtualAddress(va).add_addr(addr))
+    Reply::from(VirtualAddress(va).add_addr(addr))
 }
 
 pub fn ronakvesh_virtual_page_num(va: u64, level: u64) -> Reply
     ensures { result ≡ reply_of (index_at level va) }
 {
-    number_reply(VirtualAddress(va).page_num(level))
+    Reply::from(VirtualAddress(va).page_num(level))
 }
 
 pub fn ronakvesh_virtual_add(va: u64, other: u64) -> Reply
     ensures { result ≡ reply_of (within64 (va + other)) }
 {
-    virtual_reply(VirtualAddress(va).add(VirtualAddress(other)))
+    Reply::from(VirtualAddress(va).add(VirtualAddress(other)))
 }
 
 pub fn ronakvesh_virtual_sub(va: u64, other: u64) -> Reply
     ensures { result ≡ reply_of (at_least0 va other) }
 {
-    virtual_reply(VirtualAddress(va).sub(VirtualAddress(other)))
+    Reply::from(VirtualAddress(va).sub(VirtualAddress(other)))
 }
 
 pub fn ronakvesh_physical_new(addr: u64) -> u64
@@ -88,7 +88,7 @@ pub fn ronakvesh_physical_is_page_aligned(pa: u64) -> bool
 pub fn ronakvesh_physical_pg_round_up(pa: u64) -> Reply
     ensures { result ≡ reply_of (within64 (up pa)) }
 {
-    physical_reply(PhysicalAddress(pa).pg_round_up())
+    Reply::from(PhysicalAddress(pa).pg_round_up())
 }
 
 pub fn ronakvesh_physical_pg_round_down(pa: u64) -> u64
@@ -100,11 +100,11 @@ pub fn ronakvesh_physical_pg_round_down(pa: u64) -> u64
 pub fn ronakvesh_physical_add_page(pa: u64) -> Reply
     ensures { result ≡ reply_of (within64 (pa + 4096)) }
 {
-    physical_reply(PhysicalAddress(pa).add_page())
+    Reply::from(PhysicalAddress(pa).add_page())
 }
 
 pub fn ronakvesh_physical_add_addr(pa: u64, addr: u64) -> Reply
     ensures { result ≡ reply_of (within64 (pa + addr)) }
 {
-    physical_reply(PhysicalAddress(pa).add_addr(addr))
+    Reply::from(PhysicalAddress(pa).add_addr(addr))
 }

@@ -3,7 +3,8 @@ ghost use Rattle.store.specs.Store.{store_of};
 ghost use Rattle.interface.specs.Calls.{SetUpReply, CheckReply, TranslateReply, SatpReply, CreateReply, MapReply, UnmapReply, ClearReply, InitReply, GrowReply, ShrinkReply, InReply, OutReply, StrReply, ChildReply, FreeReply, UvmFreeReply, SharedFreeReply, ProcFreeReply};
 
 use address::{PhysicalAddress, VirtualAddress};
-use replies::{Reply, answer_reply, str_reply};
+use replies::Reply;
+use store::Store;
 
 pub fn ronakvesh_set_up(
     words: &mut [u64],
@@ -15,13 +16,14 @@ pub fn ronakvesh_set_up(
         (store_of words.old tmarks.old bytes.old fmarks.old) result
         (store_of words.new tmarks.new bytes.new fmarks.new) }
 {
-    answer_reply(store::set_up(words, tmarks, bytes, fmarks))
+    Reply::from(store::set_up(words, tmarks, bytes, fmarks))
 }
 
 pub fn ronakvesh_check(words: &[u64], tmarks: &[u32], bytes: &[u8], fmarks: &[u32]) -> Reply
     ensures { CheckReply (store_of words.now tmarks.now bytes.now fmarks.now) result }
 {
-    answer_reply(well_formed::check(words, tmarks, bytes, fmarks))
+    let store = Store { words, tmarks, bytes, fmarks };
+    Reply::from(well_formed::check(&store))
 }
 
 pub fn ronakvesh_pgt_translate(
@@ -34,7 +36,8 @@ pub fn ronakvesh_pgt_translate(
 ) -> Reply
     ensures { TranslateReply (store_of words.now tmarks.now bytes.now fmarks.now) root va result }
 {
-    answer_reply(translate::pgt_translate(words, tmarks, bytes, fmarks, root, VirtualAddress(va)))
+    let store = Store { words, tmarks, bytes, fmarks };
+    Reply::from(translate::pgt_translate(&store, root, VirtualAddress(va)))
 }
 
 pub fn ronakvesh_as_satp(
@@ -46,7 +49,8 @@ pub fn ronakvesh_as_satp(
 ) -> Reply
     ensures { SatpReply (store_of words.now tmarks.now bytes.now fmarks.now) root result }
 {
-    answer_reply(translate::as_satp(words, tmarks, bytes, fmarks, root))
+    let store = Store { words, tmarks, bytes, fmarks };
+    Reply::from(translate::as_satp(&store, root))
 }
 
 pub fn ronakvesh_uvmcreate(words: &[u64], tmarks: &mut [u32], bytes: &[u8], fmarks: &[u32]) -> Reply
@@ -54,7 +58,7 @@ pub fn ronakvesh_uvmcreate(words: &[u64], tmarks: &mut [u32], bytes: &[u8], fmar
         (store_of words.now tmarks.old bytes.now fmarks.now) result
         (store_of words.now tmarks.new bytes.now fmarks.now) }
 {
-    answer_reply(map::uvmcreate(words, tmarks, bytes, fmarks))
+    Reply::from(map::uvmcreate(words, tmarks, bytes, fmarks))
 }
 
 pub fn ronakvesh_map(
@@ -72,7 +76,7 @@ pub fn ronakvesh_map(
         (store_of words.old tmarks.old bytes.now fmarks.now) root va pa size perm result
         (store_of words.new tmarks.new bytes.now fmarks.now) }
 {
-    answer_reply(map::map(
+    Reply::from(map::map(
         words,
         tmarks,
         bytes,
@@ -99,7 +103,7 @@ pub fn ronakvesh_uvm_unmap(
         (store_of words.old tmarks.now bytes.now fmarks.old) root va pages freeing result
         (store_of words.new tmarks.now bytes.now fmarks.new) }
 {
-    answer_reply(unmap::uvm_unmap(
+    Reply::from(unmap::uvm_unmap(
         words,
         tmarks,
         bytes,
@@ -123,7 +127,7 @@ pub fn ronakvesh_uvm_clear(
         (store_of words.old tmarks.now bytes.now fmarks.now) root va result
         (store_of words.new tmarks.now bytes.now fmarks.now) }
 {
-    answer_reply(unmap::uvm_clear(words, tmarks, bytes, fmarks, root, VirtualAddress(va)))
+    Reply::from(unmap::uvm_clear(words, tmarks, bytes, fmarks, root, VirtualAddress(va)))
 }
 
 pub fn ronakvesh_uvm_init(
@@ -138,7 +142,7 @@ pub fn ronakvesh_uvm_init(
         (store_of words.old tmarks.old bytes.old fmarks.old) root src.now result
         (store_of words.new tmarks.new bytes.new fmarks.new) }
 {
-    answer_reply(grow::uvm_init(words, tmarks, bytes, fmarks, root, src))
+    Reply::from(grow::uvm_init(words, tmarks, bytes, fmarks, root, src))
 }
 
 pub fn ronakvesh_uvm_alloc(
@@ -154,7 +158,7 @@ pub fn ronakvesh_uvm_alloc(
         (store_of words.old tmarks.old bytes.old fmarks.old) root old new result
         (store_of words.new tmarks.new bytes.new fmarks.new) }
 {
-    answer_reply(grow::uvm_alloc(words, tmarks, bytes, fmarks, root, old, new))
+    Reply::from(grow::uvm_alloc(words, tmarks, bytes, fmarks, root, old, new))
 }
 
 pub fn ronakvesh_uvm_dealloc(
@@ -170,7 +174,7 @@ pub fn ronakvesh_uvm_dealloc(
         (store_of words.old tmarks.now bytes.now fmarks.old) root old new result
         (store_of words.new tmarks.now bytes.now fmarks.new) }
 {
-    answer_reply(shrink::uvm_dealloc(words, tmarks, bytes, fmarks, root, old, new))
+    Reply::from(shrink::uvm_dealloc(words, tmarks, bytes, fmarks, root, old, new))
 }
 
 pub fn ronakvesh_copy_in(
@@ -184,7 +188,8 @@ pub fn ronakvesh_copy_in(
 ) -> Reply
     ensures { InReply (store_of words.now tmarks.now bytes.now fmarks.now) root va dst.old result dst.new }
 {
-    answer_reply(copies::copy_in(words, tmarks, bytes, fmarks, root, VirtualAddress(va), dst))
+    let store = Store { words, tmarks, bytes, fmarks };
+    Reply::from(copies::copy_in(&store, root, VirtualAddress(va), dst))
 }
 
 pub fn ronakvesh_copy_out(
@@ -200,7 +205,7 @@ pub fn ronakvesh_copy_out(
         (store_of words.now tmarks.now bytes.old fmarks.now) root va src.now result
         (store_of words.now tmarks.now bytes.new fmarks.now) }
 {
-    answer_reply(copies::copy_out(words, tmarks, bytes, fmarks, root, VirtualAddress(va), src))
+    Reply::from(copies::copy_out(words, tmarks, bytes, fmarks, root, VirtualAddress(va), src))
 }
 
 pub fn ronakvesh_copy_in_str(
@@ -214,7 +219,8 @@ pub fn ronakvesh_copy_in_str(
 ) -> Reply
     ensures { StrReply (store_of words.now tmarks.now bytes.now fmarks.now) root va dst.old result dst.new }
 {
-    str_reply(strings::copy_in_str(words, tmarks, bytes, fmarks, root, VirtualAddress(va), dst))
+    let store = Store { words, tmarks, bytes, fmarks };
+    Reply::from(strings::copy_in_str(&store, root, VirtualAddress(va), dst))
 }
 
 pub fn ronakvesh_uvm_copy(
@@ -230,7 +236,7 @@ pub fn ronakvesh_uvm_copy(
         (store_of words.old tmarks.old bytes.old fmarks.old) parent child size result
         (store_of words.new tmarks.new bytes.new fmarks.new) }
 {
-    answer_reply(child::uvm_copy(words, tmarks, bytes, fmarks, parent, child, size))
+    Reply::from(child::uvm_copy(words, tmarks, bytes, fmarks, parent, child, size))
 }
 
 pub fn ronakvesh_free(
@@ -244,7 +250,7 @@ pub fn ronakvesh_free(
         (store_of words.old tmarks.old bytes.now fmarks.now) root result
         (store_of words.new tmarks.new bytes.now fmarks.now) }
 {
-    answer_reply(release::free(words, tmarks, bytes, fmarks, root))
+    Reply::from(release::free(words, tmarks, bytes, fmarks, root))
 }
 
 pub fn ronakvesh_uvm_free(
@@ -259,7 +265,7 @@ pub fn ronakvesh_uvm_free(
         (store_of words.old tmarks.old bytes.now fmarks.old) root size result
         (store_of words.new tmarks.new bytes.now fmarks.new) }
 {
-    answer_reply(process::uvm_free(words, tmarks, bytes, fmarks, root, size))
+    Reply::from(process::uvm_free(words, tmarks, bytes, fmarks, root, size))
 }
 
 pub fn ronakvesh_free_shared_user_pagetable(
@@ -274,7 +280,7 @@ pub fn ronakvesh_free_shared_user_pagetable(
         (store_of words.old tmarks.old bytes.now fmarks.old) root size result
         (store_of words.new tmarks.new bytes.now fmarks.new) }
 {
-    answer_reply(process::free_shared_user_pagetable(words, tmarks, bytes, fmarks, root, size))
+    Reply::from(process::free_shared_user_pagetable(words, tmarks, bytes, fmarks, root, size))
 }
 
 pub fn ronakvesh_proc_free_pagetable(
@@ -289,5 +295,5 @@ pub fn ronakvesh_proc_free_pagetable(
         (store_of words.old tmarks.old bytes.now fmarks.old) root size result
         (store_of words.new tmarks.new bytes.now fmarks.new) }
 {
-    answer_reply(process::proc_free_pagetable(words, tmarks, bytes, fmarks, root, size))
+    Reply::from(process::proc_free_pagetable(words, tmarks, bytes, fmarks, root, size))
 }

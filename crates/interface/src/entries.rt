@@ -7,7 +7,7 @@ ghost use Rattle.replies.specs.Reply.{reply_of};
 
 use address::PhysicalAddress;
 use page_table_entry::PageTableEntry;
-use replies::{Reply, entry_reply};
+use replies::Reply;
 
 pub fn ronakvesh_entry_new(addr: u64) -> u64
     ensures { result ≡ addr }
@@ -78,7 +78,7 @@ pub fn ronakvesh_entry_as_pagetable(e: u64) -> u64
 pub fn ronakvesh_entry_as_pte(pa: u64) -> Reply
     ensures { result ≡ reply_of (named pa) }
 {
-    entry_reply(PageTableEntry::as_pte(PhysicalAddress(pa)))
+    Reply::from(PageTableEntry::as_pte(PhysicalAddress(pa)))
 }
 
 pub fn ronakvesh_entry_as_flags(e: u64) -> u64
@@ -96,5 +96,5 @@ pub fn ronakvesh_entry_write_zero() -> u64
 pub fn ronakvesh_entry_write_perm(pa: u64, perm: u64) -> Reply
     ensures { result ≡ reply_of (written pa perm) }
 {
-    entry_reply(PageTableEntry::write_perm(PhysicalAddress(pa), perm))
+    Reply::from(PageTableEntry::write_perm(PhysicalAddress(pa), perm))
 }

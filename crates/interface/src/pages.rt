@@ -6,13 +6,13 @@ ghost use Rattle.rounding.specs.Range.{Covers};
 ghost use Rattle.replies.specs.Reply.{reply_of};
 
 use address::VirtualAddress;
-use replies::{Reply, number_reply};
+use replies::Reply;
 use rounding::PageRange;
 
 pub fn ronakvesh_page_round_up(addr: u64) -> Reply
     ensures { result ≡ reply_of (within64 (up addr)) }
 {
-    number_reply(rounding::page_round_up(addr))
+    Reply::from(rounding::page_round_up(addr))
 }
 
 pub fn ronakvesh_page_round_down(addr: u64) -> u64

@@ -4,4 +4,4 @@ use Rattle.replies.specs.Reply.{reply_of}
 use Rattle.interface.proofs.addresses.ronakvesh_physical_add_page.Goals as goal
 
 pub returns : goal.returns
-returns c = c.physical_reply.ensures ∙ ap reply_of c.add_page.ensures
+returns c = c.from.ensures ∙ ap reply_of c.add_page.ensures

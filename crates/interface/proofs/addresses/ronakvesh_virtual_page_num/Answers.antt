@@ -4,4 +4,4 @@ use Rattle.replies.specs.Reply.{reply_of}
 use Rattle.interface.proofs.addresses.ronakvesh_virtual_page_num.Goals as goal
 
 pub returns : goal.returns
-returns c = c.number_reply.ensures ∙ ap reply_of c.page_num.ensures
+returns c = c.from.ensures ∙ ap reply_of c.page_num.ensures

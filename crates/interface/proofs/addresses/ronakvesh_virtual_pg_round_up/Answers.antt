@@ -4,4 +4,4 @@ use Rattle.replies.specs.Reply.{reply_of}
 use Rattle.interface.proofs.addresses.ronakvesh_virtual_pg_round_up.Goals as goal
 
 pub returns : goal.returns
-returns c = c.virtual_reply.ensures ∙ ap reply_of c.pg_round_up.ensures
+returns c = c.from.ensures ∙ ap reply_of c.pg_round_up.ensures

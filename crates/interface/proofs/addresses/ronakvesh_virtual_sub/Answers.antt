@@ -4,4 +4,4 @@ use Rattle.replies.specs.Reply.{reply_of}
 use Rattle.interface.proofs.addresses.ronakvesh_virtual_sub.Goals as goal
 
 pub returns : goal.returns
-returns c = c.virtual_reply.ensures ∙ ap reply_of c.sub.ensures
+returns c = c.from.ensures ∙ ap reply_of c.sub.ensures

@@ -4,4 +4,4 @@ use Rattle.replies.specs.Reply.{reply_of}
 use Rattle.interface.proofs.pages.ronakvesh_page_round_up.Goals as goal
 
 pub returns : goal.returns
-returns c = c.number_reply.ensures ∙ ap reply_of c.page_round_up.ensures
+returns c = c.from.ensures ∙ ap reply_of c.page_round_up.ensures

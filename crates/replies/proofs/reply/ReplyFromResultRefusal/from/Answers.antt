@@ -6,8 +6,8 @@ use Rattle.replies.proofs.reply.ReplyFromResultRefusal.from.Goals as goal
 
 pub returns-in-Ok : goal.returns-in-Ok
 unfolding reply_of said
-returns-in-Ok g c = rw (c.in-Ok.is, c.value.ensures) refl
+returns-in-Ok g c = rw (c.in-Ok.is, c.value-value.ensures) refl
 
 pub returns-in-Err : goal.returns-in-Err
 unfolding reply_of said
-returns-in-Err g c = rw (c.in-Err.is, c.number.ensures) refl
+returns-in-Err g c = rw (c.in-Err.is, c.number-number.ensures) refl
