@@ -6,45 +6,42 @@ mod say;
 
 ghost use Rattle.std.specs.Prelude.{◌^◌, ◌≤◌};
 
-use address::{NumberAnswer, PhysicalAddress, VirtualAddress};
-use page_table_entry::{EntryAnswer, PageTableEntry};
-use say::{put, put_number, put_refusal, put_word};
+use address::{Address, PhysicalAddress, VirtualAddress};
+use calls::{growing, loading, mapping};
+use page_table_entry::PageTableEntry;
+use say::put_result;
 use std::io;
-
-fn put_index(rt: &impl Print, a: NumberAnswer) -> io::Result<()> {
-    match a {
-        NumberAnswer::Is(i) => put_number(rt, i),
-        NumberAnswer::Refused(n) => put_refusal(rt, n),
-    }
-}
 
 // The indices of va, from level 2 down.
 fn indices(rt: &impl Print, name: &str, va: u64) -> io::Result<()> {
-    put(rt, name)?;
-    put_index(rt, VirtualAddress(va).page_num(2))?;
-    put_index(rt, VirtualAddress(va).page_num(1))?;
-    put_index(rt, VirtualAddress(va).page_num(0))?;
-    put(rt, "\n")
+    let va = VirtualAddress(va);
+    print!(rt; "{name}")?;
+    put_result(rt, va.page_num(2))?;
+    put_result(rt, va.page_num(1))?;
+    put_result(rt, va.page_num(0))?;
+    println!(rt)
 }
 
 // The entry for the frame of pa.
 fn entry(rt: &impl Print, name: &str, pa: u64, perm: u64) -> io::Result<()> {
-    put(rt, name)?;
     match PageTableEntry::write_perm(PhysicalAddress(pa), perm) {
-        EntryAnswer::Built(e) => put_word(rt, e.as_usize()),
-        EntryAnswer::Refused(n) => put_refusal(rt, n),
-    }?;
-    put(rt, "\n")
+        Ok(e) => {
+            let word = e.as_usize();
+            println!(rt; "{name} 0x{word:x}")
+        }
+        Err(refusal) => {
+            let number = refusal.number();
+            println!(rt; "{name} no {number}")
+        }
+    }
 }
 
 // The pages that a range covers: the first, and the end that is not covered.
 fn pages(rt: &impl Print, name: &str, va: u64, size: u64) -> io::Result<()> {
-    let r = rounding::page_range(VirtualAddress(va), size);
-    put(rt, name)?;
-    put_number(rt, r.first)?;
-    put(rt, " up to")?;
-    put_number(rt, r.end)?;
-    put(rt, "\n")
+    let range = rounding::page_range(VirtualAddress(va), size);
+    let first = range.first;
+    let end = range.end;
+    println!(rt; "{name} {first} up to {end}")
 }
 
 // The tables that pages of root 0 miss in a fresh store of 8 tables.
@@ -52,17 +49,15 @@ fn missing(rt: &impl Print, name: &str, first: usize, end: usize) -> io::Result<
     requires { (first ≤ end) × (end ≤ 2 ^ 26) }
 {
     let words = [0u64; 4096];
-    put(rt, name)?;
-    put_number(rt, walk::missing_tables(&words, 0, first, end) as u64)?;
-    put(rt, "\n")
+    let tables = walk::missing_tables(&words, 0, first, end);
+    println!(rt; "{name} {tables}")
 }
 
 // The address and the flags of an entry.
 fn parts(rt: &impl Print, name: &str, e: u64) -> io::Result<()> {
-    put(rt, name)?;
-    put_word(rt, PageTableEntry(e).as_pagetable().as_usize())?;
-    put_number(rt, PageTableEntry(e).as_flags())?;
-    put(rt, "\n")
+    let address = PageTableEntry(e).as_pagetable().as_usize();
+    let flags = PageTableEntry(e).as_flags();
+    println!(rt; "{name} 0x{address:x} {flags}")
 }
 
 fn main(rt: HostRuntime) -> io::Result<()> {
@@ -78,12 +73,12 @@ fn main(rt: HostRuntime) -> io::Result<()> {
     missing(&rt, "S10", 262143, 262145)?;
     missing(&rt, "S11", 511, 1024)?;
     parts(&rt, "S12", 0x2000_0007)?;
-    calls::growing(&rt, "S13", 1, 4096)?;
-    calls::growing(&rt, "S13", 0, 4097)?;
-    calls::mapping_with_2(&rt, "S14", 22)?;
-    calls::mapping_with_3(&rt, "S14", 22)?;
-    calls::loading(&rt, "S15", &[7u8; 4095])?;
-    calls::loading(&rt, "S15", &[7u8; 4096])?;
-    calls::mapping_with_8(&rt, "S15", 1023)?;
-    calls::mapping_with_8(&rt, "S15", 1024)
+    growing(&rt, "S13", 1, 4096)?;
+    growing(&rt, "S13", 0, 4097)?;
+    mapping::<1024, 2>(&rt, "S14", 22)?;
+    mapping::<1536, 3>(&rt, "S14", 22)?;
+    loading(&rt, "S15", &[7u8; 4095])?;
+    loading(&rt, "S15", &[7u8; 4096])?;
+    mapping::<4096, 8>(&rt, "S15", 1023)?;
+    mapping::<4096, 8>(&rt, "S15", 1024)
 }

@@ -1,19 +1,14 @@
 // What is printed.
+use refusal::Refusal;
 use std::io;
 
-pub fn put(rt: &impl Print, text: &str) -> io::Result<()> {
-    rt.print(text)
-}
-
-pub fn put_number(rt: &impl Print, n: u64) -> io::Result<()> {
-    print!(rt; " {n}")
-}
-
-pub fn put_word(rt: &impl Print, n: u64) -> io::Result<()> {
-    print!(rt; " 0x{n:x}")
-}
-
-pub fn put_refusal(rt: &impl Print, n: u64) -> io::Result<()> {
-    put(rt, " no")?;
-    put_number(rt, n)
+// The number that is answered, or `no` and that of the refusal.
+pub fn put_result(rt: &impl Print, outcome: Result<u64, Refusal>) -> io::Result<()> {
+    match outcome {
+        Ok(value) => print!(rt; " {value}"),
+        Err(refusal) => {
+            let number = refusal.number();
+            print!(rt; " no {number}")
+        }
+    }
 }

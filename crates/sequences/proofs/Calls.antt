@@ -4,12 +4,11 @@ use mathlib.Core.Logic.{◌⊎◌, inl, inr}
 use mathlib.Core.List.{List}
 use Prim.Native.Nat.{ℕ, zero, suc}
 use lib.ListN.{length}
-use Rattle.address.specs.Answer.{refused}
+use Rattle.std.specs.Prelude.{Result, Ok, Err}
+use Rattle.refusal.specs.declared.Refusal.{Refusal}
+use Rattle.address.specs.Answer.{refused, number_said}
 use Rattle.store.specs.Store.{Store}
 use Rattle.store.specs.SetUp.{SetUp}
-use Rattle.store.specs.Outcome.{answer_said}
-use Rattle.store.specs.declared.Answer.{Answer}
-use Rattle.store.specs.declared.Answer.TheVariants.{Refused, Done}
 use Rattle.store.proofs.SetUp.{one_set_up}
 use Rattle.well_formed.specs.Check.{Check}
 use Rattle.well_formed.proofs.Verdict.{one_check}
@@ -34,8 +33,7 @@ use Rattle.shrink.proofs.ShrinkLaws.{one_shrink}
 use Rattle.copies.specs.InOut.{In, Out}
 use Rattle.strings.specs.Str.{str_said, Str}
 use Rattle.child.specs.Child.{Child}
-use Rattle.strings.specs.declared.StrAnswer.{StrAnswer}
-use Rattle.strings.specs.declared.StrAnswer.TheVariants as str
+use Rattle.strings.specs.declared.StrRead.{StrRead}
 use Rattle.copies.proofs.InOutLaws.{one_in, one_out}
 use Rattle.copies.proofs.MovedLaws.{in_moved}
 use Rattle.strings.proofs.TextLaws.{one_str, text_read}
@@ -56,28 +54,28 @@ use Rattle.sequences.proofs.Lawful.{Lawful, writing, reading, filling}
 -- ---- the buffer that `copy_in` and `copy_in_str` fill
 
 module _ (root va : ℕ) (s : Store) (b : List ℕ) where
-  in_ends : (r : Answer) (b' : List ℕ) → In s root va b r b'
-      → ((answer_said r).number ≡ 0) ⊎ ((n : ℕ) × Listed n (numbers (copy_in root va)) × (answer_said r ≡ refused n) × (b' ≡ b))
-  unfolding answer_said
-  in_ends (Refused n) b' p = inr (n, copy_listed p.0.applies, refl, p.1)
-  in_ends (Done v) b' p = inl refl
+  in_ends : (r : Result ℕ Refusal) (b' : List ℕ) → In s root va b r b'
+      → ((number_said r).number ≡ 0) ⊎ ((n : ℕ) × Listed n (numbers (copy_in root va)) × (number_said r ≡ refused n) × (b' ≡ b))
+  unfolding number_said
+  in_ends (Err n) b' p = inr (n, copy_listed p.0.applies, refl, p.1)
+  in_ends (Ok v) b' p = inl refl
 
-  in_size : (r : Answer) (b' : List ℕ) → In s root va b r b' → length b' ≡ length b
-  in_size (Refused n) b' p = ap length p.1
-  in_size (Done v) b' p = (in_moved s root va b v b' p).size
+  in_size : (r : Result ℕ Refusal) (b' : List ℕ) → In s root va b r b' → length b' ≡ length b
+  in_size (Err n) b' p = ap length p.1
+  in_size (Ok v) b' p = (in_moved s root va b v b' p).size
 
-  str_ends : (r : StrAnswer) (b' : List ℕ) → Str s root va b r b'
+  str_ends : (r : Result StrRead Refusal) (b' : List ℕ) → Str s root va b r b'
       → ((str_said r).number ≡ 0) ⊎ ((n : ℕ) × Listed n (numbers (copy_in_str root va)) × (str_said r ≡ refused n) × (b' ≡ b))
   unfolding str_said
   str_ends (str.Refused n) b' p = inr (n, str_listed p.0.applies, refl, p.1)
   str_ends (str.Read n met) b' p = inl refl
 
-  str_size : (r : StrAnswer) (b' : List ℕ) → Str s root va b r b' → length b' ≡ length b
+  str_size : (r : Result StrRead Refusal) (b' : List ℕ) → Str s root va b r b' → length b' ≡ length b
   str_size (str.Refused n) b' p = ap length p.1
   str_size (str.Read n met) b' p = (text_read s root va b n met b' p).size
 
 -- a refusal of a call made of parts leaves the store
-uvm_free_no : (root size : ℕ) (s : Store) (n : ℕ) (s' : Store) → UvmFree root size s (Refused n) s' → s' ≡ s
+uvm_free_no : (root size : ℕ) (s : Store) (n : Refusal) (s' : Store) → UvmFree root size s (Err n) s' → s' ≡ s
 uvm_free_no root zero s n s' p = p.1
 uvm_free_no root (suc size) s n s' p = p.1
 
@@ -100,7 +98,7 @@ lawful (uvm_copy parent child size) =
     writing (uvm_copy parent child size) (λ s. Child s parent child size) (λ s n s' p. (child_listed p.0.applies, p.1)) (λ s. child_left s parent child size) (λ s. one_child s parent child size)
 lawful (copy_out root va src) =
     writing (copy_out root va src) (λ s. Out s root va src) (λ s n s' p. (copy_listed p.0.applies, p.1)) (λ s. out_left s root va src) (λ s. one_out s root va src)
-lawful (copy_in root va) = filling (copy_in root va) answer_said (λ s. In s root va) (in_ends root va) (in_size root va) (λ s. one_in s root va)
+lawful (copy_in root va) = filling (copy_in root va) number_said (λ s. In s root va) (in_ends root va) (in_size root va) (λ s. one_in s root va)
 lawful (copy_in_str root va) = filling (copy_in_str root va) str_said (λ s. Str s root va) (str_ends root va) (str_size root va) (λ s. one_str s root va)
 lawful (free root) = writing (free root) (λ s. Free s root) (λ s n s' p. (free_listed p.0.applies, p.1)) (λ s. free_left s root) (λ s. one_free s root)
 lawful (uvm_free root size) =

@@ -4,11 +4,11 @@ use mathlib.Core.Logic.{◌⊎◌, inl, inr, ⊎_elim}
 use mathlib.Core.List.{List}
 use Prim.Native.Nat.{ℕ}
 use lib.ListN.{length}
-use Rattle.address.specs.Answer.{Said, refused}
+use Rattle.std.specs.Prelude.{Result, Ok, Err}
+use Rattle.refusal.specs.declared.Refusal.{Refusal}
+use Rattle.refusal.specs.Number.{number_of}
+use Rattle.address.specs.Answer.{Said, refused, number_said}
 use Rattle.store.specs.Store.{Store}
-use Rattle.store.specs.Outcome.{answer_said}
-use Rattle.store.specs.declared.Answer.{Answer}
-use Rattle.store.specs.declared.Answer.TheVariants.{Refused, Done}
 use Rattle.process.proofs.PartLaws.{One}
 use Rattle.sequences.specs.Call.{Call, Lent, lent}
 use Rattle.sequences.specs.Answers.{Writes, Reads, Fills}
@@ -34,16 +34,16 @@ refusal c l a l' n h e same =
 
 -- ---- the store is lent for writing
 
-module _ (c : Call) (P : Store → Answer → Store → Type 0) (no : (s : Store) (n : ℕ) (s' : Store) → P s (Refused n) s' → Listed n (numbers c) × (s' ≡ s))
-    (done : (s : Store) (v : ℕ) (s' : Store) → P s (Done v) s' → Left s s') (one : One P) where
-  left : (s : Store) (r : Answer) (s' : Store) → P s r s' → Left s s'
-  left s (Refused n) s' p = subst (Left s) (sym (no s n s' p).1) (record { lengths = as_it_is s; sound = λ o. o })
-  left s (Done v) s' p = done s v s' p
+module _ (c : Call) (P : Store → Result ℕ Refusal → Store → Type 0) (no : (s : Store) (n : Refusal) (s' : Store) → P s (Err n) s' → Listed (number_of n) (numbers c) × (s' ≡ s))
+    (done : (s : Store) (v : ℕ) (s' : Store) → P s (Ok v) s' → Left s s') (one : One P) where
+  left : (s : Store) (r : Result ℕ Refusal) (s' : Store) → P s r s' → Left s s'
+  left s (Err n) s' p = subst (Left s) (sym (no s n s' p).1) (record { lengths = as_it_is s; sound = λ o. o })
+  left s (Ok v) s' p = done s v s' p
 
-  ends : (l : Lent) (a : Said) (l' : Lent) (r : Answer) → P l.store r l'.store → a ≡ answer_said r → l'.buffer ≡ l.buffer → AnsweredOrRefused c l a l'
-  unfolding answer_said
-  ends l a l' (Refused n) p e b = let q = no l.store n l'.store p in inr (refusal c l a l' n q.0 e (λ i. lent (q.1 i) (b i)))
-  ends l a l' (Done v) p e b = inl (ap (λ (x : Said). x.number) e)
+  ends : (l : Lent) (a : Said) (l' : Lent) (r : Result ℕ Refusal) → P l.store r l'.store → a ≡ number_said r → l'.buffer ≡ l.buffer → AnsweredOrRefused c l a l'
+  unfolding number_said
+  ends l a l' (Err n) p e b = let q = no l.store n l'.store p in inr (refusal c l a l' n q.0 e (λ i. lent (q.1 i) (b i)))
+  ends l a l' (Ok v) p e b = inl (ap (λ (x : Said). x.number) e)
 
   pub writing : Lawful c (λ l. Writes (P l.store) l)
   writing = record {
@@ -52,17 +52,17 @@ module _ (c : Call) (P : Store → Answer → Store → Type 0) (no : (s : Store
     sound = λ l a l' x. (left l.store x.spoken.answer l'.store x.spoken.holds).sound;
     one = λ l a a' l₁ l₂ x y.
         let e = one l.store x.spoken.answer y.spoken.answer l₁.store l₂.store x.spoken.holds y.spoken.holds in
-        (x.spoken.says ∙ ap answer_said e.0 ∙ sym y.spoken.says, λ i. lent (e.1 i) ((x.buffer ∙ sym y.buffer) i));
+        (x.spoken.says ∙ ap number_said e.0 ∙ sym y.spoken.says, λ i. lent (e.1 i) ((x.buffer ∙ sym y.buffer) i));
   }
 
 -- ---- the store is lent for reading
 
-module _ (c : Call) (P : Store → Answer → Type 0) (no : (s : Store) (n : ℕ) → P s (Refused n) → Listed n (numbers c))
-    (one : (s : Store) (a a' : Answer) → P s a → P s a' → a ≡ a') where
-  said : (l : Lent) (a : Said) (l' : Lent) (r : Answer) → P l.store r → a ≡ answer_said r → l' ≡ l → AnsweredOrRefused c l a l'
-  unfolding answer_said
-  said l a l' (Refused n) p e same = inr (refusal c l a l' n (no l.store n p) e same)
-  said l a l' (Done v) p e same = inl (ap (λ (x : Said). x.number) e)
+module _ (c : Call) (P : Store → Result ℕ Refusal → Type 0) (no : (s : Store) (n : Refusal) → P s (Err n) → Listed (number_of n) (numbers c))
+    (one : (s : Store) (a a' : Result ℕ Refusal) → P s a → P s a' → a ≡ a') where
+  said : (l : Lent) (a : Said) (l' : Lent) (r : Result ℕ Refusal) → P l.store r → a ≡ number_said r → l' ≡ l → AnsweredOrRefused c l a l'
+  unfolding number_said
+  said l a l' (Err n) p e same = inr (refusal c l a l' n (no l.store n p) e same)
+  said l a l' (Ok v) p e same = inl (ap (λ (x : Said). x.number) e)
 
   pub reading : Lawful c (λ l. Reads (P l.store) l)
   reading = record {
@@ -71,7 +71,7 @@ module _ (c : Call) (P : Store → Answer → Type 0) (no : (s : Store) (n : ℕ
     sound = λ l a l' x. subst (λ (t : Lent). Sound l.store → Sound t.store) (sym x.same) (λ o. o);
     one = λ l a a' l₁ l₂ x y.
         let e = one l.store x.spoken.answer y.spoken.answer x.spoken.holds y.spoken.holds in
-        (x.spoken.says ∙ ap answer_said e ∙ sym y.spoken.says, x.same ∙ sym y.same);
+        (x.spoken.says ∙ ap number_said e ∙ sym y.spoken.says, x.same ∙ sym y.same);
   }
 
 -- ---- the buffer is filled; what paper says of an answer is a refusal n of the call that leaves the buffer, or has number 0

@@ -5,12 +5,12 @@ use Prim.Native.Nat.{ℕ, ◌*◌, ◌<◌}
 use native.Mathlib.Decide.{ℕ_discrete, dec_lt, dec_le}
 use native.Mathlib.Omega.{arith}
 use lib.ListN.{length, length-set, length-replicate}
+use Rattle.std.specs.Prelude.{Ok}
 use Rattle.store.specs.Store.{Store, Sized, mark}
 use Rattle.store.specs.Count.{lowest, free_tables}
 use Rattle.store.specs.SetUp as set_up
 use Rattle.store.specs.SetUp.{fresh, SetUp}
 use Rattle.store.specs.Outcome.{NoReason}
-use Rattle.store.specs.declared.Answer.TheVariants.{Done}
 use Rattle.store.proofs.SetUp.{fresh_well_formed}
 use Rattle.well_formed.specs.Root.{RootReason, sizes, unformed, no_root, RootReady}
 use Rattle.map.specs.Create as create
@@ -81,7 +81,7 @@ fresh_long s = record {
 fresh_sound : (s : Store) → Sized s → Sound (fresh s)
 fresh_sound s z = record { sized = as_long_sized s (fresh s) (fresh_long s) z; formed = fresh_well_formed s }
 
-pub set_up_left : (s : Store) (v : ℕ) (s' : Store) → SetUp s (Done v) s' → Left s s'
+pub set_up_left : (s : Store) (v : ℕ) (s' : Store) → SetUp s (Ok v) s' → Left s s'
 set_up_left s v s' u = subst (Left s) (sym u.1.1) (record { lengths = fresh_long s; sound = λ o. fresh_sound s o.sized })
 
 -- sizes that cannot be wrong are right
@@ -96,10 +96,10 @@ sized_where s h = record {
 }
 
 -- set-up leaves a sound store wherever it is answered
-pub set_up_sound : (s : Store) (v : ℕ) (s' : Store) → SetUp s (Done v) s' → Sound s'
+pub set_up_sound : (s : Store) (v : ℕ) (s' : Store) → SetUp s (Ok v) s' → Sound s'
 set_up_sound s v s' u = subst Sound (sym u.1.1) (fresh_sound s (sized_where s (λ h. u.0 1 (set_up.sizes h))))
 
-pub create_left : (s : Store) (v : ℕ) (s' : Store) → create.Create s (Done v) s' → Left s s'
+pub create_left : (s : Store) (v : ℕ) (s' : Store) → create.Create s (Ok v) s' → Left s s'
 create_left s v s' u = left_of s s' some kept
   where
     some : (Sound s → ⊥) → ⊥

@@ -4,9 +4,10 @@ use mathlib.Core.Logic.{inl, inr}
 use mathlib.Core.Bool.{Bool, false, true≢false}
 use mathlib.Core.List.{List, [], ◌∷◌}
 use Prim.Native.Nat.{ℕ, zero, suc, ◌%◌}
+use Rattle.std.specs.Prelude.{Result, Err}
+use Rattle.refusal.specs.declared.Refusal.{Refusal}
+use Rattle.refusal.specs.Number.{number_of}
 use Rattle.store.specs.Store.{Store}
-use Rattle.store.specs.declared.Answer.{Answer}
-use Rattle.store.specs.declared.Answer.TheVariants.{Refused}
 use Rattle.store.specs.SetUp as set_up
 use Rattle.well_formed.specs.Check as check
 use Rattle.well_formed.specs.Root as root
@@ -151,14 +152,14 @@ module _ (ns : List ℕ) (one : Listed 1 ns) (two : Listed 2 ns) (three : Listed
     unmap_part seven ten (unmap.pages (leave.unmapped i l h)) = eleven
     unmap_part seven ten (unmap.pages (leave.bare i l h)) = thirteen
 
-    uvm_free_part : (r size : ℕ) (s : Store) (k : ℕ) (s' : Store) → Listed 18 ns → UvmFree r size s (Refused k) s' → Listed k ns
+    uvm_free_part : (r size : ℕ) (s : Store) (k : Refusal) (s' : Store) → Listed 18 ns → UvmFree r size s (Err k) s' → Listed (number_of k) ns
     uvm_free_part r zero s k s' eighteen u = free_part eighteen u.0.applies
     uvm_free_part r (suc size) s k s' eighteen (inl u, e) = unmap_part (λ n. absurd (n refl)) (λ b. absurd (true≢false b)) u.0.applies
     uvm_free_part r (suc size) s k s' eighteen (inr (v, s₁, x, u), e) = free_part eighteen u.0.applies
 
     -- the page at va leaves without freeing, and then comes part q
-    one_part : (q : Store → Answer → Store → Type 0) → ((s : Store) (k : ℕ) (s' : Store) → q s (Refused k) s' → Listed k ns) → Listed 10 ns
-        → (r va : ℕ) → va % 4096 ≡ 0 → (s : Store) (k : ℕ) (s' : Store) → Then (UnmapOne r va) q s (Refused k) s' → Listed k ns
+    one_part : (q : Store → Result ℕ Refusal → Store → Type 0) → ((s : Store) (k : Refusal) (s' : Store) → q s (Err k) s' → Listed (number_of k) ns) → Listed 10 ns
+        → (r va : ℕ) → va % 4096 ≡ 0 → (s : Store) (k : Refusal) (s' : Store) → Then (UnmapOne r va) q s (Err k) s' → Listed (number_of k) ns
     one_part q rest ten r va e s k s' (inl u, _) = unmap_part (λ n. absurd (n e)) (λ _. ten) u.0.applies
     one_part q rest ten r va e s k s' (inr (v, s₁, x, u), _) = rest s₁ k s₁ u
 
@@ -170,26 +171,26 @@ pub free_listed : {s : Store} {r k : ℕ} → free.FreeReason s r k → Listed k
 unfolding among
 free_listed = free_part (after_root (18 ∷ [])) refl refl refl refl
 
-pub uvm_free_listed : (r size : ℕ) (s : Store) (k : ℕ) (s' : Store) → UvmFree r size s (Refused k) s' → Listed k (after_root (6 ∷ 11 ∷ 13 ∷ 18 ∷ []))
+pub uvm_free_listed : (r size : ℕ) (s : Store) (k : Refusal) (s' : Store) → UvmFree r size s (Err k) s' → Listed (number_of k) (after_root (6 ∷ 11 ∷ 13 ∷ 18 ∷ []))
 unfolding among
 uvm_free_listed r size s k s' = uvm_free_part (after_root (6 ∷ 11 ∷ 13 ∷ 18 ∷ [])) refl refl refl refl refl refl r size s k s' refl
 
 abbrev with_ten : List ℕ
 with_ten = after_root (6 ∷ 10 ∷ 11 ∷ 13 ∷ 18 ∷ [])
 
-rest_listed : (r size : ℕ) (s : Store) (k : ℕ) (s' : Store) → UvmFree r size s (Refused k) s' → Listed k with_ten
+rest_listed : (r size : ℕ) (s : Store) (k : Refusal) (s' : Store) → UvmFree r size s (Err k) s' → Listed (number_of k) with_ten
 unfolding among
 rest_listed r size s k s' = uvm_free_part with_ten refl refl refl refl refl refl r size s k s' refl
 
-then_listed : (q : Store → Answer → Store → Type 0) → ((s : Store) (k : ℕ) (s' : Store) → q s (Refused k) s' → Listed k with_ten)
-    → (r va : ℕ) → va % 4096 ≡ 0 → (s : Store) (k : ℕ) (s' : Store) → Then (UnmapOne r va) q s (Refused k) s' → Listed k with_ten
+then_listed : (q : Store → Result ℕ Refusal → Store → Type 0) → ((s : Store) (k : Refusal) (s' : Store) → q s (Err k) s' → Listed (number_of k) with_ten)
+    → (r va : ℕ) → va % 4096 ≡ 0 → (s : Store) (k : Refusal) (s' : Store) → Then (UnmapOne r va) q s (Err k) s' → Listed (number_of k) with_ten
 unfolding among
 then_listed q rest = one_part with_ten refl refl refl refl refl refl q rest refl
 
-pub shared_free_listed : (r size : ℕ) (s : Store) (k : ℕ) (s' : Store) → SharedFree r size s (Refused k) s' → Listed k with_ten
+pub shared_free_listed : (r size : ℕ) (s : Store) (k : Refusal) (s' : Store) → SharedFree r size s (Err k) s' → Listed (number_of k) with_ten
 shared_free_listed r size = then_listed (UvmFree r size) (rest_listed r size) r trampoline refl
 
-pub proc_free_listed : (r size : ℕ) (s : Store) (k : ℕ) (s' : Store) → ProcFree r size s (Refused k) s' → Listed k with_ten
+pub proc_free_listed : (r size : ℕ) (s : Store) (k : Refusal) (s' : Store) → ProcFree r size s (Err k) s' → Listed (number_of k) with_ten
 proc_free_listed r size = then_listed (Then (UnmapOne r trapframe) (UvmFree r size)) (then_listed (UvmFree r size) (rest_listed r size) r trapframe refl) r trampoline refl
 
 -- ---- the reasons of a named root

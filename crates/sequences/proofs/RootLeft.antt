@@ -7,12 +7,12 @@ use Prim.Native.Nat.{ℕ, zero, suc, ◌+◌, ◌/◌, ◌^◌, ◌≤◌, ◌<�
 use native.Mathlib.Decide.{dec_lt, dec_le}
 use native.Mathlib.Omega.{arith}
 use lib.ListN.{length}
+use Rattle.std.specs.Prelude.{Ok}
 use Rattle.page_table_entry.specs.Built.{entry_of}
 use Rattle.rounding.specs.Range.{first_page}
 use Rattle.store.specs.Store.{Store, Sized}
 use Rattle.store.specs.WellFormed.{Outside}
 use Rattle.store.specs.Outcome.{NoReason}
-use Rattle.store.specs.declared.Answer.TheVariants.{Done}
 use Rattle.well_formed.specs.Root.{RootReady, Asked}
 use Rattle.map.specs.Map.{Map}
 use Rattle.map.specs.Numbers as range
@@ -58,7 +58,7 @@ kept_gone z g = record {
 
 -- ---- map
 
-module _ (s : Store) (root va pa size perm v : ℕ) (s' : Store) (u : Map s root va pa size perm (Done v) s') where
+module _ (s : Store) (root va pa size perm v : ℕ) (s' : Store) (u : Map s root va pa size perm (Ok v) s') where
   low : (i : ℕ) → i < range.pages_of va size → first_page va + i < 2 ^ 26
   low i l =
       by_cases (dec_lt (first_page va + i) (2 ^ 26)) (λ y. y)
@@ -87,10 +87,10 @@ module _ (s : Store) (root va pa size perm v : ℕ) (s' : Store) (u : Map s root
 
 -- ---- uvm_unmap and uvm_clear
 
-pub unmap_tables : (s : Store) (root va n : ℕ) (freeing : Bool) (v : ℕ) (s' : Store) → unmap.Unmap s root va n freeing (Done v) s' → SameTables s s'
+pub unmap_tables : (s : Store) (root va n : ℕ) (freeing : Bool) (v : ℕ) (s' : Store) → unmap.Unmap s root va n freeing (Ok v) s' → SameTables s s'
 unmap_tables s root va n freeing v s' u = ap (λ (t : Store). length t.tmarks) u.1.1 ∙ leave_tables n s root (va / 4096) freeing
 
-unmap_kept : (s : Store) (root va n : ℕ) (freeing : Bool) (v : ℕ) (s' : Store) → unmap.Unmap s root va n freeing (Done v) s' → RootReady s root → KeptSound s s'
+unmap_kept : (s : Store) (root va n : ℕ) (freeing : Bool) (v : ℕ) (s' : Store) → unmap.Unmap s root va n freeing (Ok v) s' → RootReady s root → KeptSound s s'
 unfolding leave_pages
 unmap_kept s root va zero freeing v s' u r = subst (KeptSound s) (sym u.1.1) (record { sound = record { sized = r.sized; formed = r.formed }; tables = refl; frames = refl })
 unmap_kept s root va (suc n) freeing v s' u r =
@@ -98,10 +98,10 @@ unmap_kept s root va (suc n) freeing v s' u r =
     record { at_root = r; pages = within (va / 4096) (suc n) (omega arith) (λ h. u.0 6 (unmap.too_high h)) } in
     kept_gone r.sized (unmap_gone s root va (suc n) freeing v s' a u)
 
-pub unmap_left : (s : Store) (root va n : ℕ) (freeing : Bool) (v : ℕ) (s' : Store) → unmap.Unmap s root va n freeing (Done v) s' → Left s s'
+pub unmap_left : (s : Store) (root va n : ℕ) (freeing : Bool) (v : ℕ) (s' : Store) → unmap.Unmap s root va n freeing (Ok v) s' → Left s s'
 unmap_left s root va n freeing v s' u = left_at s root (unmap.UnmapReason s root va n freeing) unmap_root u.0 s' (unmap_kept s root va n freeing v s' u)
 
-pub clear_left : (s : Store) (root va v : ℕ) (s' : Store) → clear.Clear s root va (Done v) s' → Left s s'
+pub clear_left : (s : Store) (root va v : ℕ) (s' : Store) → clear.Clear s root va (Ok v) s' → Left s s'
 clear_left s root va v s' u = left_at s root (clear.ClearReason s root va) clear_root u.0 s' (λ r.
     let h : va < 2 ^ 38 = by_cases (dec_lt va (2 ^ 38)) (λ y. y) (λ y. absurd (u.0 6 (clear.too_high (omega arith)))) in
     let c = clear_cleared s root va v s' r.sized r.formed r.is_root h u in
@@ -109,7 +109,7 @@ clear_left s root va v s' u = left_at s root (clear.ClearReason s root va) clear
 
 -- ---- uvm_init, uvm_alloc and uvm_dealloc
 
-pub init_left : (s : Store) (root : ℕ) (src : List ℕ) (v : ℕ) (s' : Store) → init.Init s root src (Done v) s' → Left s s'
+pub init_left : (s : Store) (root : ℕ) (src : List ℕ) (v : ℕ) (s' : Store) → init.Init s root src (Ok v) s' → Left s s'
 init_left s root src v s' u = left_at s root (init.InitReason s root src) (λ k. init.at_root) u.0 s' (λ r.
     kept_grown (init_grown s root src v s' (record { at_root = r; pages = omega arith }) u)
     (ap (λ (t : Store). length t.tmarks) u.1.1 ∙ fresh_table s root 0 31 (init.padded src)))
@@ -121,14 +121,14 @@ small s root old new none = (
   by_cases (dec_le new (2 ^ 38)) (λ y. y) (λ y. absurd (none 6 (too_large (inr (omega arith))))),
 )
 
-pub grow_left : (s : Store) (root old new v : ℕ) (s' : Store) → grow.Grow s root old new (Done v) s' → Left s s'
+pub grow_left : (s : Store) (root old new v : ℕ) (s' : Store) → grow.Grow s root old new (Ok v) s' → Left s s'
 grow_left s root old new v s' u = left_at s root (grow.GrowReason s root old new) (λ k h. grow.sizes (at_root h)) u.0 s' (λ r.
     let z = small s root old new (λ k h. u.0 k (grow.sizes h)) in
     let h : pages_to old + grow.gained old new ≤ 2 ^ 26 = omega (arith, z.0, z.1) in
     kept_grown (grow_grown s root old new v s' (record { at_root = r; pages = h }) u)
     (ap (λ (t : Store). length t.tmarks) u.1.1 ∙ fresh_tables (grow.gained old new) s root (pages_to old) (λ _. 31) (λ _. grow.zeroed)))
 
-pub shrink_left : (s : Store) (root old new v : ℕ) (s' : Store) → shrink.Shrink s root old new (Done v) s' → Left s s'
+pub shrink_left : (s : Store) (root old new v : ℕ) (s' : Store) → shrink.Shrink s root old new (Ok v) s' → Left s s'
 shrink_left s root old new v s' u = left_at s root (shrink.ShrinkReason s root old new) (λ k h. shrink.sizes (at_root h)) u.0 s' (λ r.
     let z = small s root old new (λ k h. u.0 k (shrink.sizes h)) in
     let h : pages_to new + shrink.lost old new ≤ 2 ^ 26 = omega (arith, z.0, z.1) in
@@ -136,12 +136,12 @@ shrink_left s root old new v s' u = left_at s root (shrink.ShrinkReason s root o
 
 -- ---- copy_out and uvm_copy
 
-pub out_left : (s : Store) (root va : ℕ) (src : List ℕ) (v : ℕ) (s' : Store) → Out s root va src (Done v) s' → Left s s'
+pub out_left : (s : Store) (root va : ℕ) (src : List ℕ) (v : ℕ) (s' : Store) → Out s root va src (Ok v) s' → Left s s'
 out_left s root va src v s' u = left_at s root (needed.CopyReason s root va (length src)) (λ k. needed.at_root) u.0 s' (λ r.
     let m = out_moved s root va r src v s' u in
     record { sound = record { sized = m.sized; formed = m.well_formed }; tables = ap length m.tmarks; frames = ap length m.fmarks })
 
-pub child_left : (s : Store) (p c size v : ℕ) (s' : Store) → child.Child s p c size (Done v) s' → Left s s'
+pub child_left : (s : Store) (p c size v : ℕ) (s' : Store) → child.Child s p c size (Ok v) s' → Left s s'
 child_left s p c size v s' u = left_at s p (child.ChildReason s p c size) (λ k. child.at_parent) u.0 s' (λ r.
     let rc = ready_at s c (child.ChildReason s p c size) (λ k. child.at_child) u.0 (record { sized = r.sized; formed = r.formed }) in
     kept_grown (child_grown s p c size r rc v s' u)

@@ -5,12 +5,11 @@ use mathlib.Core.List.{[], ◌∷◌, head-eq_of_cons-eq, tail-eq_of_cons-eq}
 use Prim.Native.Nat.{ℕ}
 use native.Mathlib.Omega.{arith}
 use lib.ListN.{length}
-use Rattle.address.specs.Answer.{Said}
+use Rattle.std.specs.Prelude.{Result, Ok, Err}
+use Rattle.refusal.specs.declared.Refusal.{Refusal}
+use Rattle.address.specs.Answer.{Said, number_said}
 use Rattle.store.specs.Store.{Store}
 use Rattle.store.specs.SetUp.{SetUp}
-use Rattle.store.specs.Outcome.{answer_said}
-use Rattle.store.specs.declared.Answer.{Answer}
-use Rattle.store.specs.declared.Answer.TheVariants.{Refused, Done}
 use Rattle.sequences.specs.Call.{Call, Lent, lent}
 use Rattle.sequences.specs.Answers.{Answers, Writes}
 use Rattle.sequences.specs.Numbers.{among, Listed}
@@ -39,12 +38,12 @@ kept s (x ∷ xs) o q =
     ((o', r.0), r.1)
 
 -- a set-up that says 0 has been answered
-begun : (s : Store) (a : Said) (s' : Store) (r : Answer) → SetUp s r s' → a ≡ answer_said r → a.number ≡ 0 → Sound s'
-unfolding answer_said among
-begun s a s' (Refused n) u e z =
+begun : (s : Store) (a : Said) (s' : Store) (r : Result ℕ Refusal) → SetUp s r s' → a ≡ number_said r → a.number ≡ 0 → Sound s'
+unfolding number_said among
+begun s a s' (Err n) u e z =
     let n0 : n ≡ 0 = ap (λ (x : Said). x.number) (sym e) ∙ z in
     absurd (false≢true (subst (λ (k : ℕ). Listed k (1 ∷ [])) n0 (set_up_listed u.0.applies)))
-begun s a s' (Done v) u e z = set_up_sound s v s' u
+begun s a s' (Ok v) u e z = set_up_sound s v s' u
 
 pub kept_from_set_up : KeptFromSetUp
 kept_from_set_up s x xs e z q =

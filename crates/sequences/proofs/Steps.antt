@@ -3,11 +3,11 @@ use mathlib.Core.Path.{refl}
 use mathlib.Core.Bool.{Bool}
 use mathlib.Core.List.{List}
 use Prim.Native.Nat.{ℕ}
-use Rattle.address.specs.Answer.{Said}
+use Rattle.std.specs.Prelude.{Result}
+use Rattle.refusal.specs.declared.Refusal.{Refusal}
+use Rattle.address.specs.Answer.{Said, number_said}
 use Rattle.store.specs.Store.{Store}
 use Rattle.store.specs.SetUp.{SetUp}
-use Rattle.store.specs.Outcome.{answer_said}
-use Rattle.store.specs.declared.Answer.{Answer}
 use Rattle.well_formed.specs.Check.{Check}
 use Rattle.translate.specs.Translate.{Translate}
 use Rattle.translate.specs.Satp.{Satp}
@@ -32,16 +32,16 @@ use Rattle.replies.specs.declared.Reply.{Reply}
 
 -- b is a buffer that is not lent, or that which is filled and becomes b'
 module _ (s : Store) (b : List ℕ) (r : Reply) where
-  written : (P : Answer → Store → Type 0) (s' : Store) → Replied (λ (a : Answer). P a s') r → Told (λ (a : Said). Writes P (lent s b) a (lent s' b)) r
+  written : (P : Result ℕ Refusal → Store → Type 0) (s' : Store) → Replied (λ (a : Result ℕ Refusal). P a s') r → Told (λ (a : Said). Writes P (lent s b) a (lent s' b)) r
   written P s' x = record {
-    said = answer_said x.answer;
+    said = number_said x.answer;
     holds = record { spoken = record { answer = x.answer; holds = x.holds; says = refl }; buffer = refl };
     says = x.says;
   }
 
-  read : (P : Answer → Type 0) → Replied P r → Told (λ (a : Said). Reads P (lent s b) a (lent s b)) r
+  read : (P : Result ℕ Refusal → Type 0) → Replied P r → Told (λ (a : Said). Reads P (lent s b) a (lent s b)) r
   read P x = record {
-    said = answer_said x.answer;
+    said = number_said x.answer;
     holds = record { spoken = record { answer = x.answer; holds = x.holds; says = refl }; same = refl };
     says = x.says;
   }
@@ -57,7 +57,7 @@ module _ (s : Store) (b : List ℕ) (r : Reply) where
 
   pub in_told : (root va : ℕ) (b' : List ℕ) → InReply s root va b r b' → Tells (copy_in root va) (lent s b) r (lent s b')
   in_told root va b' x = record {
-    said = answer_said x.answer;
+    said = number_said x.answer;
     holds = record { spoken = record { answer = x.answer; holds = x.holds; says = refl }; store = refl };
     says = x.says;
   }

@@ -1,10 +1,9 @@
 -- What a call may say and leave: its own promise, said of the number and the values of document 01.
-use Rattle.std.specs.Prelude.{◌≡◌, List, ℕ}
-use Rattle.address.specs.Answer.{Said}
+use Rattle.std.specs.Prelude.{◌≡◌, List, ℕ, Result}
+use Rattle.refusal.specs.declared.Refusal.{Refusal}
+use Rattle.address.specs.Answer.{Said, number_said}
 use Rattle.store.specs.Store.{Store}
 use Rattle.store.specs.SetUp.{SetUp}
-use Rattle.store.specs.Outcome.{answer_said}
-use Rattle.store.specs.declared.Answer.{Answer}
 use Rattle.well_formed.specs.Check.{Check}
 use Rattle.translate.specs.Translate.{Translate}
 use Rattle.translate.specs.Satp.{Satp}
@@ -29,13 +28,13 @@ pub record Spoken {A : Type 0} (paper : A → Said) (P : A → Type 0) (a : Said
   pub says : a ≡ paper answer
 
 -- the store is lent for writing, and there is no buffer to write to
-pub record Writes (P : Answer → Store → Type 0) (l : Lent) (a : Said) (l' : Lent) : Type 0 where
-  pub spoken : Spoken answer_said (λ (r : Answer). P r l'.store) a
+pub record Writes (P : Result ℕ Refusal → Store → Type 0) (l : Lent) (a : Said) (l' : Lent) : Type 0 where
+  pub spoken : Spoken number_said (λ (r : Result ℕ Refusal). P r l'.store) a
   pub buffer : l'.buffer ≡ l.buffer
 
 -- the store is lent for reading
-pub record Reads (P : Answer → Type 0) (l : Lent) (a : Said) (l' : Lent) : Type 0 where
-  pub spoken : Spoken answer_said P a
+pub record Reads (P : Result ℕ Refusal → Type 0) (l : Lent) (a : Said) (l' : Lent) : Type 0 where
+  pub spoken : Spoken number_said P a
   pub same : l' ≡ l
 
 -- the store is lent for reading, and the buffer is filled
@@ -57,7 +56,7 @@ Answers (uvm_unmap root va n freeing) l = Writes (Unmap l.store root va n freein
 Answers (uvm_clear root va) l = Writes (Clear l.store root va) l
 Answers (uvm_copy parent child size) l = Writes (Child l.store parent child size) l
 Answers (copy_out root va src) l = Writes (Out l.store root va src) l
-Answers (copy_in root va) l = Fills answer_said (In l.store root va l.buffer) l
+Answers (copy_in root va) l = Fills number_said (In l.store root va l.buffer) l
 Answers (copy_in_str root va) l = Fills str_said (Str l.store root va l.buffer) l
 Answers (free root) l = Writes (Free l.store root) l
 Answers (uvm_free root size) l = Writes (UvmFree root size l.store) l
