@@ -7,13 +7,13 @@ use native.Mathlib.Decide.{ℕ_discrete, dec_lt}
 use native.Mathlib.Nat.{zero-add}
 use native.Mathlib.Omega.{arith}
 use lib.Bits.{bit_and}
-use Rattle.std.specs.Prelude.{Result, Ok, Err}
+use Rattle.std.specs.Prelude.{Result, Ok}
 use Rattle.refusal.specs.declared.Refusal.{Refusal}
 use Rattle.page_table_entry.specs.Layout.{bit_v}
 use Rattle.address.specs.Field.{bit}
 use Rattle.store.specs.Store.{Store, frame_no, pool_no}
 use Rattle.store.specs.Walk.{resolve}
-use Rattle.store.specs.Outcome.{NoReason, Smallest}
+use Rattle.store.specs.Outcome.{NoReason}
 use Rattle.store.proofs.Outcomes.{one_outcome}
 use Rattle.store.proofs.Tree.{tree_of}
 use Rattle.well_formed.specs.Root.{RootReady}

@@ -100,16 +100,14 @@ module _ (s₀ : Store) (parent child size : ℕ) (c : ChildReady s₀ parent ch
       there = in_range fs pf.frame (λ z. omega (arith, kept.mark, in_use i h))
 
       module _ (f : ℕ) (ef : f ≡ lowest fs) where
-        free : (f < length fs) × (mark fs f ≡ 0)
-        free = subst (λ (x : ℕ). (x < length fs) × (mark fs x ≡ 0)) (sym ef) (lowest_free fs (omega (arith, g.growing.ready.frames)))
+        frame_there : f < length fs
+        frame_there = omega (arith, ef, lowest_free fs (omega (arith, g.growing.ready.frames)))
 
         pub frame_small : f < 4096
-        frame_small = omega (arith, free.0, g.growing.ready.sized.frames_to)
+        frame_small = omega (arith, frame_there, g.growing.ready.sized.frames_to)
 
-        pub may_copy : (e / 1024 - 0x11_0000 ≡ f → ⊥) × (4096 * (e / 1024 - 0x11_0000) + 4096 ≤ length bs) × (4096 * f + 4096 ≤ length bs)
-        may_copy =
-            let z = g.growing.ready.sized.bytes in
-            (λ x. omega (arith, free.1, kept.mark, in_use i h, ap (mark fs) (sym frame_is ∙ x)), omega (arith, z, there, frame_is), omega (arith, z, free.0))
+        pub may_copy : (4096 * (e / 1024 - 0x11_0000) + 4096 ≤ length bs) × (4096 * f + 4096 ≤ length bs)
+        may_copy = let z = g.growing.ready.sized.bytes in (omega (arith, z, there, frame_is), omega (arith, z, frame_there))
 
       copied : take 4096 (drop (4096 * (e / 1024 - 0x11_0000)) bs) ≡ b i
       copied =

@@ -1,13 +1,15 @@
 -- The reasons of `uvm_copy` that speak of pages, in order, and what each count of its judge says. Assumes nothing.
 use mathlib.Core.Path.{◌≡◌, sym, subst}
-use mathlib.Core.Logic.{inr}
 use Prim.Native.Nat.{ℕ, ◌+◌, ◌-◌, ◌^◌, ◌≤◌, ◌<◌}
 use native.Mathlib.Nat.{zero-add}
 use native.Mathlib.Omega.{arith}
 use Rattle.store.specs.Store.{Store}
 use Rattle.store.specs.Walk.{resolve}
-use Rattle.store.specs.Outcome.{Smallest}
-use Rattle.store.proofs.Outcomes.{then_judged, JustThen, just_from, just_found, just_passed}
+use Rattle.std.specs.Prelude.{Result, Ok, Err}
+use Rattle.refusal.specs.declared.Refusal.{Refusal}
+use Rattle.refusal.specs.Number.{number_of}
+use Rattle.store.specs.Outcome.{Smallest, Judges}
+use Rattle.store.proofs.Outcomes.{JustThen, just_from, just_found, then_other}
 use Rattle.well_formed.specs.Root.{RootReady}
 use Rattle.walk.specs.Mapped.{Mapped}
 use Rattle.walk.specs.Missing.{entry_in}
@@ -64,33 +66,33 @@ module _ (s : Store) (parent child n : ℕ) where
     pub no_11 : m < n → Smallest PageReason 11
     no_11 h =
         let q = one_lacks (entry_in s.words parent 2) 1 1 0 n m (omega arith) count (omega arith) in
-        just_found 11 Unmapped above11 (omega arith) (q.0, q.2, λ x. q.3 (mapped_counted s parent q.0 x))
+        just_found 11 Unmapped above11 (q.0, q.2, λ x. q.3 (mapped_counted s parent q.0 x))
 
     module _ (all : n ≤ m) where
       mapped : (p : ℕ) → p < n → Mapped s parent p
       mapped p l = counted_mapped s parent p (all_have (entry_in s.words parent 2) 1 1 0 n m (omega arith) count (omega arith) p (omega arith) l)
 
       to14 : (k : ℕ) → Smallest From14 k → Smallest PageReason k
-      to14 = just_passed 11 Unmapped (λ (p, l, h). h (mapped p l))
+      to14 = then_other 11 Unmapped (λ (p, l, h). h (mapped p l))
 
       module _ (t : ℕ) (met : PagesAlike s.words child 0 n 1 1 t) where
         pub no_14 : (t ≡ 0 → ⊥) → Smallest PageReason 14
         no_14 h =
             let q = one_has (entry_in s.words child 2) 1 1 0 n t (omega arith) met (omega arith) in
-            to14 14 (just_found 14 Taken above14 (omega arith) (q.0, q.2, subst (Mapped s child) (sym (zero-add q.0)) (counted_mapped s child q.0 q.3)))
+            to14 14 (just_found 14 Taken above14 (q.0, q.2, subst (Mapped s child) (sym (zero-add q.0)) (counted_mapped s child q.0 q.3)))
 
         module _ (none : t ≡ 0) where
           free : (i : ℕ) → i < n → Mapped s child (0 + i) → ⊥
           free i l h = none_has (entry_in s.words child 2) 1 1 0 n t (omega arith) met none (0 + i) (omega arith) (omega arith) (mapped_counted s child (0 + i) h)
 
           to15 : (k : ℕ) → Smallest From15 k → Smallest PageReason k
-          to15 k q = to14 k (just_passed 14 Taken (λ (i, l, h). free i l h) k q)
+          to15 k q = to14 k (then_other 14 Taken (λ (i, l, h). free i l h) k q)
 
           module _ (j : ℕ) (pools : PagesAlike s.words parent 0 n 0xFFFF_FFFF_F800_0000 0x4000_0000 j) where
             pub no_15 : j < n → Smallest PageReason 15
             no_15 h =
                 let q = one_lacks (entry_in s.words parent 2) 0xFFFF_FFFF_F800_0000 0x4000_0000 0 n j (omega arith) pools (omega arith) in
-                to15 15 (just_found 15 Foreign above15 (omega arith) (q.0, q.2, λ x. q.3 (pool_counted s r.sized parent q.0 x)))
+                to15 15 (just_found 15 Foreign above15 (q.0, q.2, λ x. q.3 (pool_counted s r.sized parent q.0 x)))
 
             module _ (held : n ≤ j) where
               pool : (p : ℕ) → p < n → PoolFrame s (resolve s parent p)
@@ -104,10 +106,10 @@ module _ (s : Store) (parent child n : ℕ) where
               later k (no_frames h) = (no_frames h, omega arith)
               later k (no_tables h) = (no_tables h, omega arith)
 
-              pub by_fresh : (k : ℕ) → Smallest (FreshReason s child 0 (n - 0)) k → Smallest PageReason k
-              by_fresh k q =
+              pub by_fresh : (j : Result Unit Refusal) → Judges (FreshReason s child 0 (n - 0)) (FreshReady s child 0 (n - 0)) j → Judges PageReason PagesReady j
+              by_fresh (Ok u) f = let e : n - 0 ≡ n = omega arith in (mapped, pool, subst (FreshReady s child 0) e f)
+              by_fresh (Err k) q =
+                  let m = number_of k in
                   let e : n - 0 ≡ n = omega arith in
-                  to15 k
-                  (just_passed 15 Foreign (λ (p, l, h). h (pool p l)) k
-                  (then_judged {A = λ x. ⊥} PagesReady (λ x y. inr y.0) later (λ x y. y) (λ f. (mapped, pool, f)) k
-                  (subst (λ (x : ℕ). Smallest (FreshReason s child 0 x) k) e q)))
+                  let first : Smallest (FreshReason s child 0 n) m = subst (λ (x : ℕ). Smallest (FreshReason s child 0 x) m) e q in
+                  to15 m (then_other 15 Foreign (λ (p, l, h). h (pool p l)) m (record { applies = later m first.applies; least = λ i l x. first.least i l x.0 }))

@@ -4,8 +4,11 @@ use mathlib.Core.Logic.{◌⊎◌, inl, inr, ⊎_elim}
 use Prim.Native.Nat.{ℕ, ◌-◌, ◌/◌, ◌%◌, ◌^◌, ◌≤◌, ◌<◌}
 use native.Mathlib.Omega.{arith}
 use Rattle.store.specs.Store.{Store, mark}
-use Rattle.store.specs.Outcome.{NoReason, Smallest}
-use Rattle.store.proofs.Outcomes.{then_judged, JustThen, just_from, just_found, just_passed}
+use Rattle.std.specs.Prelude.{Result, Ok, Err}
+use Rattle.refusal.specs.declared.Refusal.{Refusal}
+use Rattle.refusal.specs.Number.{number_of}
+use Rattle.store.specs.Outcome.{NoReason, Smallest, Judges}
+use Rattle.store.proofs.Outcomes.{then_found, JustThen, just_from, just_found, then_other}
 use Rattle.well_formed.specs.Root.{RootReason, sizes, unformed, no_root, RootReady, Asked}
 use Rattle.well_formed.proofs.RootReasons.{root_upto, root_clear}
 use Rattle.walk.proofs.Calls.{root_in}
@@ -92,40 +95,38 @@ module _ (s : Store) (parent child size : ℕ) where
   -- ---- the tests in a row
 
   pub by_parent : (n : ℕ) → Smallest (RootReason s parent) n → Smallest R n
-  by_parent n h q =
-      let m = q.reason h in
-      record {
-        applies = at_parent m.applies;
-        least = λ k l x. ⊎_elim (m.least k l) (λ b. omega (arith, root_upto m.applies, just_from 3 (mark s.tmarks child ≡ 1 → ⊥) above3 k b)) (split k x);
-      }
+  by_parent n m = record {
+    applies = at_parent m.applies;
+    least = λ k l x. ⊎_elim (m.least k l) (λ b. omega (arith, root_upto m.applies, just_from 3 (mark s.tmarks child ≡ 1 → ⊥) above3 k b)) (split k x);
+  }
 
   module _ (r : RootReady s parent) where
     to3 : (n : ℕ) → Smallest From3 n → Smallest R n
-    to3 = then_judged split join (root_clear s parent r) (λ f. f)
+    to3 = then_found split join (root_clear s parent r)
 
     pub no_3 : (mark s.tmarks child ≡ 1 → ⊥) → Smallest R 3
-    no_3 h = to3 3 (just_found 3 (mark s.tmarks child ≡ 1 → ⊥) above3 (omega arith) h)
+    no_3 h = to3 3 (just_found 3 (mark s.tmarks child ≡ 1 → ⊥) above3 h)
 
     module _ (c : mark s.tmarks child ≡ 1) where
       to4 : (n : ℕ) → Smallest From4 n → Smallest R n
-      to4 n q = to3 n (just_passed 3 (mark s.tmarks child ≡ 1 → ⊥) (λ h. h c) n q)
+      to4 n q = to3 n (then_other 3 (mark s.tmarks child ≡ 1 → ⊥) (λ h. h c) n q)
 
       pub no_4 : child ≡ parent → Smallest R 4
-      no_4 h = to4 4 (just_found 4 (child ≡ parent) above4 (omega arith) h)
+      no_4 h = to4 4 (just_found 4 (child ≡ parent) above4 h)
 
       module _ (a : child ≡ parent → ⊥) where
         to6 : (n : ℕ) → Smallest From6 n → Smallest R n
-        to6 n q = to4 n (just_passed 4 (child ≡ parent) a n q)
+        to6 n q = to4 n (then_other 4 (child ≡ parent) a n q)
 
         pub no_6 : 2 ^ 38 < size → Smallest R 6
-        no_6 h = to6 6 (just_found 6 (2 ^ 38 < size) above6 (omega arith) h)
+        no_6 h = to6 6 (just_found 6 (2 ^ 38 < size) above6 h)
 
         module _ (z : size ≤ 2 ^ 38) where
           to7 : (n : ℕ) → Smallest From7 n → Smallest R n
-          to7 n q = to6 n (just_passed 6 (2 ^ 38 < size) (λ h. omega arith) n q)
+          to7 n q = to6 n (then_other 6 (2 ^ 38 < size) (λ h. omega arith) n q)
 
           pub no_7 : (size % 4096 ≡ 0 → ⊥) → Smallest R 7
-          no_7 h = to7 7 (just_found 7 (size % 4096 ≡ 0 → ⊥) above7 (omega arith) h)
+          no_7 h = to7 7 (just_found 7 (size % 4096 ≡ 0 → ⊥) above7 h)
 
           -- what the counts and the judge of fresh pages ask
           pub may_count : (child < 512) × (parent < 512) × (size / 4096 ≤ 2 ^ 26)
@@ -137,11 +138,14 @@ module _ (s : Store) (parent child size : ℕ) where
           pub asked : Asked s child 0 (size / 4096 - 0) × (0 ≤ size / 4096)
           asked = (record { at_root = at_child₀; pages = omega arith }, omega arith)
 
-          pub by_pages : size % 4096 ≡ 0 → (n : ℕ) → Smallest Pages n → Smallest R n
-          by_pages y n q =
-              let ready : PagesReady s parent child (size / 4096) → F =
-              λ g. record { at_parent = r; at_child = at_child₀; apart = a; small = z; aligned = y; mapped = g.0; pool = g.1; fresh = g.2 } in
-              to7 n (then_judged F (λ k x. x) (λ k. inr) (λ k x. x.1 y) ready n q)
+          module _ (y : size % 4096 ≡ 0) where
+            pub at_page : (n : ℕ) → Smallest Pages n → Smallest R n
+            at_page n q = to7 n (then_other 7 (size % 4096 ≡ 0 → ⊥) (λ h. h y) n q)
+
+            pub by_pages : (j : Result Unit Refusal) → Judges Pages (PagesReady s parent child (size / 4096)) j → Judges R F j
+            by_pages (Ok u) g =
+                record { at_parent = r; at_child = at_child₀; apart = a; small = z; aligned = y; mapped = g.0; pool = g.1; fresh = g.2 }
+            by_pages (Err k) q = at_page (number_of k) q
 
   -- where the call is ready no reason applies
   pub clear : F → NoReason R

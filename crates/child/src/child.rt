@@ -11,12 +11,7 @@ use refusal::Refusal;
 use store::Store;
 use unmap::{FRAME_PART, WINDOW};
 
-fn judge_child(
-    store: &Store,
-    parent: u64,
-    child: u64,
-    size: u64,
-) -> Result<(), Refusal>
+fn judge_child(store: &Store, parent: u64, child: u64, size: u64) -> Result<(), Refusal>
     ensures { Judges
         (ChildReason (seen store.now) parent child size)
         (ChildReady (seen store.now) parent child size)
@@ -48,18 +43,13 @@ fn judge_child(
     fresh::judge_fresh(store, child as usize, 0, n)
 }
 
-// The bytes of frame g go to frame f, which is another.
+// The bytes of frame g go to frame f.
 fn copy_frame(bytes: &mut [u8], g: usize, f: usize)
-    requires { (g ≡ f → ⊥) × (4096 * g + 4096 ≤ length bytes.old) × (4096 * f + 4096 ≤ length bytes.old) }
+    requires { (4096 * g + 4096 ≤ length bytes.old) × (4096 * f + 4096 ≤ length bytes.old) }
     ensures { bytes.new ≡ framed bytes.old f (take 4096 (drop (4096 * g) bytes.old)) }
 {
     let from = 4096 * g;
-    let to = 4096 * f;
-    let mut i = 0;
-    while i < 4096 {
-        bytes[to + i] = bytes[from + i];
-        i += 1;
-    }
+    bytes.copy_within(from..from + 4096, 4096 * f);
 }
 
 // The first n pages of the parent go to the child: fresh frames with the same flags and bytes. The search for a free frame goes on
@@ -79,13 +69,11 @@ fn copy_pages(
 {
     let n = (size / 4096) as usize;
     let mut from = 0;
-    let mut i = 0;
-    while i < n {
+    for i in 0..n {
         let e = walk::slot_word(words, walk::slot_of(words, parent, i));
         let f = fresh::enter_frame(words, tmarks, fmarks, child, i, e & 0x3FF, from);
         copy_frame(bytes, (e / 1024) as usize - 0x11_0000, f);
         from = f + 1;
-        i += 1;
     }
 }
 
@@ -103,7 +91,12 @@ pub fn uvm_copy(
         (store_of words.old tmarks.old bytes.old fmarks.old) parent child size result
         (store_of words.new tmarks.new bytes.new fmarks.new) }
 {
-    let store = Store { words, tmarks, bytes, fmarks };
+    let store = Store {
+        words,
+        tmarks,
+        bytes,
+        fmarks,
+    };
     judge_child(&store, parent, child, size)?;
     copy_pages(
         words,
