@@ -1,29 +1,32 @@
 -- `process::parts::judge_proc` meets its contract. Assumes nothing.
 use native.Mathlib.Omega.{arith}
 use Rattle.std.proofs.lemmas.Result.{err_from_is_err_and}
-use Rattle.process.proofs.PageLaws.{proc_refused, root_ready, can_ask, trapframe_refused, proc_judged}
+use Rattle.process.specs.Parts.{Then, UnmapOne, UvmFree, trampoline, trapframe}
+use Rattle.process.proofs.PageLaws.{page_refused, can_ask, trapframe_refused, proc_judged}
 use Rattle.store.specs.Store.{seen}
 use Rattle.process.proofs.parts.judge_proc.Goals as goal
 
 pub returns-in_err-judge_unmap : goal.returns-in_err-judge_unmap
-returns-in_err-judge_unmap c = let p = err_from_is_err_and c.from_residual.result c.from_residual.ensures.1 in rw (p.1, p.2) (let a = c.args in proc_refused (seen a.store.now) a.root a.size _ c.in_err-judge_unmap.ensures)
-
-pub judge_leave-then-requires : goal.judge_leave-then-requires
-judge_leave-then-requires c =
+returns-in_err-judge_unmap c =
     let a = c.args in
-    (can_ask (seen a.store.now) a.root a.size _ c.judge_unmap-no.ensures c.if-no-ne0.false, omega arith)
+    let p = err_from_is_err_and c.from_residual.result c.from_residual.ensures.1 in rw (p.1, p.2)
+    (page_refused a.root trampoline (Then (UnmapOne a.root trapframe) (UvmFree a.root a.size)) (seen a.store.now) _ c.in_err-judge_unmap.ensures)
 
-pub returns-then-then-ne0 : goal.returns-then-then-ne0
-returns-then-then-ne0 c =
+pub judge_leave-requires : goal.judge_leave-requires
+judge_leave-requires c =
     let a = c.args in
-    trapframe_refused (seen a.store.now) a.root a.size _ c.judge_unmap-no.ensures c.if-no-ne0.false _ c.judge_leave-then.ensures c.if-then-ne0.true
+    (can_ask (seen a.store.now) a.root a.size c.in_ok-judge_unmap.ensures, omega arith)
+
+pub returns-in_err-judge_leave : goal.returns-in_err-judge_leave
+returns-in_err-judge_leave c =
+    let a = c.args in
+    let p = err_from_is_err_and c.from_residual-in_err-judge_leave.result c.from_residual-in_err-judge_leave.ensures.1 in rw (p.1, p.2)
+    (trapframe_refused (seen a.store.now) a.root a.size c.in_ok-judge_unmap.ensures _ c.in_err-judge_leave.ensures)
 
 pub judge_rest-requires : goal.judge_rest-requires
-judge_rest-requires c =
-    let a = c.args in
-    (root_ready (seen a.store.now) a.root a.size _ c.judge_unmap-no.ensures c.if-no-ne0.false, omega arith)
+judge_rest-requires c = ((c.in_ok-judge_unmap.ensures).at_root, omega arith)
 
 pub returns : goal.returns
 returns c =
     let a = c.args in
-    proc_judged (seen a.store.now) a.root a.size _ c.judge_unmap-no.ensures c.if-no-ne0.false _ c.judge_leave-then.ensures c.if-then-ne0.false _ c.judge_rest.ensures
+    proc_judged (seen a.store.now) a.root a.size c.in_ok-judge_unmap.ensures c.in_ok-judge_leave.ensures _ c.judge_rest.ensures
