@@ -12,7 +12,7 @@ use store::Store;
 
 const PAGES: usize = 1 << 26;
 
-const TRAMPOLINE: u64 = 0x3F_FFFF_F000;
+const TRAMPOLINE: VirtualAddress = VirtualAddress(0x3F_FFFF_F000);
 
 const TRAMPOLINE_PAGE: usize = 0x3FF_FFFF;
 
@@ -99,7 +99,7 @@ pub fn uvm_free(
 fn judge_shared(store: &Store, root: u64, size: u64) -> Result<(), Refusal>
     ensures { JudgesParts (SharedFree root size) (SharedReady root size) (seen store.now) result }
 {
-    unmap::judge_unmap(store, root, VirtualAddress(TRAMPOLINE), 1, false)?;
+    unmap::judge_unmap(store, root, TRAMPOLINE, 1, false)?;
     judge_rest(store, root as usize, size, TRAMPOLINE_PAGE)
 }
 
@@ -132,7 +132,7 @@ pub fn free_shared_user_pagetable(
 fn judge_proc(store: &Store, root: u64, size: u64) -> Result<(), Refusal>
     ensures { JudgesParts (ProcFree root size) (ProcReady root size) (seen store.now) result }
 {
-    unmap::judge_unmap(store, root, VirtualAddress(TRAMPOLINE), 1, false)?;
+    unmap::judge_unmap(store, root, TRAMPOLINE, 1, false)?;
     let root = root as usize;
     unmap::judge_leave(store, root, TRAPFRAME_PAGE, TRAPFRAME_PAGE + 1, false)?;
     judge_rest(store, root, size, TRAPFRAME_PAGE)

@@ -4,13 +4,6 @@ use Rattle.process.proofs.PageLaws.{shared_rest, shared_done}
 use Rattle.store.specs.Store.{store_of}
 use Rattle.process.proofs.parts.free_shared_user_pagetable.Goals as goal
 
-pub returns-in_err-judge_shared : goal.returns-in_err-judge_shared
-returns-in_err-judge_shared c =
-    let p = err_from_is_err_and c.from_residual.result c.from_residual.ensures.1 in rw (p.1, p.2) c.in_err-judge_shared.ensures
-
-pub leave_pages-requires : goal.leave_pages-requires
-leave_pages-requires c = (c.in_ok-judge_shared.ensures).leave
-
 pub do_rest-requires : goal.do_rest-requires
 do_rest-requires c =
     let a = c.args in

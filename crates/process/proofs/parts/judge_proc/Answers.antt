@@ -23,9 +23,6 @@ returns-in_err-judge_leave c =
     let p = err_from_is_err_and c.from_residual-in_err-judge_leave.result c.from_residual-in_err-judge_leave.ensures.1 in rw (p.1, p.2)
     (trapframe_refused (seen a.store.now) a.root a.size c.in_ok-judge_unmap.ensures _ c.in_err-judge_leave.ensures)
 
-pub judge_rest-requires : goal.judge_rest-requires
-judge_rest-requires c = ((c.in_ok-judge_unmap.ensures).at_root, omega arith)
-
 pub returns : goal.returns
 returns c =
     let a = c.args in

@@ -9,9 +9,6 @@ returns-then-size-gt-MAXVA c =
     let a = c.args in
     size_refused (seen a.store.now) a.root a.size a.top c.requires.1 c.if-size-gt-MAXVA.true
 
-pub pages_to-n-requires : goal.pages_to-n-requires
-pages_to-n-requires c = c.if-size-gt-MAXVA.false
-
 pub returns-then-n-top : goal.returns-then-n-top
 returns-then-n-top c =
     let a = c.args in

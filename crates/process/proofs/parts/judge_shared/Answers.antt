@@ -12,9 +12,6 @@ returns-in_err-judge_unmap c =
     let p = err_from_is_err_and c.from_residual.result c.from_residual.ensures.1 in rw (p.1, p.2)
     (page_refused a.root trampoline (UvmFree a.root a.size) (seen a.store.now) _ c.in_err-judge_unmap.ensures)
 
-pub judge_rest-requires : goal.judge_rest-requires
-judge_rest-requires c = ((c.in_ok-judge_unmap.ensures).at_root, omega arith)
-
 pub returns : goal.returns
 returns c =
     let a = c.args in

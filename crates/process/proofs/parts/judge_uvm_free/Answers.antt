@@ -11,9 +11,6 @@ returns-in_err-judge_root c =
     let p = err_from_is_err_and c.from_residual.result c.from_residual.ensures.1 in rw (p.1, p.2)
     (root_refused (seen a.store.now) a.root a.size _ c.in_err-judge_root.ensures)
 
-pub judge_rest-requires : goal.judge_rest-requires
-judge_rest-requires c = (c.in_ok-judge_root.ensures, omega arith)
-
 pub returns : goal.returns
 returns c =
     let a = c.args in

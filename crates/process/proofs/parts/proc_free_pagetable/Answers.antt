@@ -8,9 +8,6 @@ pub returns-in_err-judge_proc : goal.returns-in_err-judge_proc
 returns-in_err-judge_proc c =
     let p = err_from_is_err_and c.from_residual.result c.from_residual.ensures.1 in rw (p.1, p.2) c.in_err-judge_proc.ensures
 
-pub leave_pages-requires : goal.leave_pages-requires
-leave_pages-requires c = (c.in_ok-judge_proc.ensures).leave
-
 pub leave_pages-requires-2 : goal.leave_pages-requires-2
 leave_pages-requires-2 c =
     let a = c.args in
