@@ -9,7 +9,7 @@ use Rattle.refusal.specs.declared.Refusal.{Refusal}
 use Rattle.refusal.specs.Number.{number_of}
 use Rattle.store.specs.Store.{Store}
 use Rattle.store.specs.Outcome.{Smallest}
-use Rattle.well_formed.specs.Root.{RootReady, Asked}
+use Rattle.well_formed.specs.Root.{Asked}
 use Rattle.unmap.specs.Leave.{LeaveReason, LeaveReady, leave_pages, CanLeave}
 use Rattle.unmap.specs.Unmap.{UnmapReason, UnmapReady}
 use Rattle.unmap.proofs.UnmapReasons.{by_pages}

@@ -124,7 +124,16 @@ pub fn free_shared_user_pagetable(
     };
     judge_shared(&store, root, size)?;
     let root = root as usize;
-    unmap::leave_pages(words, tmarks, bytes, fmarks, root, TRAMPOLINE_PAGE, 1, false);
+    unmap::leave_pages(
+        words,
+        tmarks,
+        bytes,
+        fmarks,
+        root,
+        TRAMPOLINE_PAGE,
+        1,
+        false,
+    );
     Ok(do_rest(words, tmarks, bytes, fmarks, root, size))
 }
 
@@ -159,7 +168,16 @@ pub fn proc_free_pagetable(
     };
     judge_proc(&store, root, size)?;
     let root = root as usize;
-    unmap::leave_pages(words, tmarks, bytes, fmarks, root, TRAMPOLINE_PAGE, 1, false);
+    unmap::leave_pages(
+        words,
+        tmarks,
+        bytes,
+        fmarks,
+        root,
+        TRAMPOLINE_PAGE,
+        1,
+        false,
+    );
     unmap::leave_pages(words, tmarks, bytes, fmarks, root, TRAPFRAME_PAGE, 1, false);
     Ok(do_rest(words, tmarks, bytes, fmarks, root, size))
 }

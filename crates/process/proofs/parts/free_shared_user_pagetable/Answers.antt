@@ -1,14 +1,7 @@
 -- `process::parts::free_shared_user_pagetable` meets its contract. Assumes nothing.
-use Rattle.std.proofs.lemmas.Result.{err_from_is_err_and}
-use Rattle.process.proofs.PageLaws.{shared_rest, shared_done}
+use Rattle.process.proofs.PageLaws.{shared_done}
 use Rattle.store.specs.Store.{store_of}
 use Rattle.process.proofs.parts.free_shared_user_pagetable.Goals as goal
-
-pub do_rest-requires : goal.do_rest-requires
-do_rest-requires c =
-    let a = c.args in
-    let l = c.leave_pages in
-    shared_rest (store_of a.words.now a.tmarks.now a.bytes.now a.fmarks.now) a.root a.size c.in_ok-judge_shared.ensures (store_of l.new.words a.tmarks.now a.bytes.now l.new.fmarks) l.ensures
 
 pub returns : goal.returns
 returns c =

@@ -1,6 +1,6 @@
 -- `process::parts::judge_rest` meets its contract. Assumes nothing.
 use Rattle.std.proofs.lemmas.Result.{err_from_is_err_and}
-use Rattle.process.proofs.RestLaws.{size_refused, page_missing, can_ask, can_count, pages_refused, tree_refused, none_refused}
+use Rattle.process.proofs.RestLaws.{size_refused, page_missing, pages_refused, tree_refused, none_refused}
 use Rattle.store.specs.Store.{seen}
 use Rattle.process.proofs.parts.judge_rest.Goals as goal
 
@@ -14,21 +14,11 @@ returns-then-n-top c =
     let a = c.args in
     page_missing (seen a.store.now) a.root a.size a.top c.requires.1 c.if-size-gt-MAXVA.false _ c.pages_to-n.ensures c.if-n-top.true
 
-pub judge_leave-requires : goal.judge_leave-requires
-judge_leave-requires c =
-    let a = c.args in
-    can_ask (seen a.store.now) a.root a.size a.top c.requires.1 c.if-size-gt-MAXVA.false _ c.pages_to-n.ensures c.if-n-top.false c.requires.0
-
 pub returns-in_err-judge_leave : goal.returns-in_err-judge_leave
 returns-in_err-judge_leave c =
     let a = c.args in
     let p = err_from_is_err_and c.from_residual.result c.from_residual.ensures.1 in rw (p.1, p.2)
     (pages_refused (seen a.store.now) a.root a.size a.top c.requires.1 c.if-size-gt-MAXVA.false _ c.pages_to-n.ensures c.if-n-top.false _ c.in_err-judge_leave.ensures)
-
-pub count_pages-requires : goal.count_pages-requires
-count_pages-requires c =
-    let a = c.args in
-    can_count (seen a.store.now) a.root a.size a.top c.requires.1 c.if-size-gt-MAXVA.false _ c.pages_to-n.ensures c.if-n-top.false c.requires.0
 
 pub returns-then-count_pages-ne0 : goal.returns-then-count_pages-ne0
 returns-then-count_pages-ne0 c =
