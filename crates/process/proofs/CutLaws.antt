@@ -6,7 +6,7 @@ use Prim.Native.Nat.{ℕ, zero, suc, ◌+◌, ◌^◌, ◌<◌}
 use native.Mathlib.Nat.{add-zero}
 use native.Mathlib.Decide.{ℕ_discrete}
 use native.Mathlib.Omega.{arith}
-use Rattle.std.specs.Prelude.{Result, Err}
+use Rattle.std.specs.Prelude.{Err}
 use Rattle.refusal.specs.declared.Refusal.{Refusal}
 use Rattle.refusal.specs.Number.{number_of}
 use Rattle.store.specs.Store.{Store}
@@ -20,7 +20,7 @@ use Rattle.unmap.proofs.LeavePages.{leavable}
 use Rattle.unmap.proofs.GoneLaws.{pages_gone}
 use Rattle.shrink.specs.Sizes.{pages_to}
 use Rattle.process.specs.Parts.{UvmFree}
-use Rattle.process.specs.PartsReady.{JudgesParts, RestReady, Cut, JudgesRest}
+use Rattle.process.specs.PartsReady.{Cut}
 use Rattle.release.proofs.FreeReasons.{by_root}
 use Rattle.process.proofs.StillRoot.{still_root}
 
@@ -55,7 +55,3 @@ module _ (s : Store) (root top : ℕ) (t : Store) (c : Cut s root (top + 1) t) (
 pub root_refused : (s : Store) (root size : ℕ) (k : Refusal) → Smallest (RootReason s root) (number_of k) → UvmFree root size s (Err k) s
 root_refused s root zero k m = (by_root s root (number_of k) m, refl)
 root_refused s root (suc size) k m = (inl (unmapping.by_root s root 0 (pages_to (suc size)) true (number_of k) m, refl), refl)
-
--- nothing has gone before the last parts
-pub rest_judged : (s : Store) (root size : ℕ) (r : Result Unit Refusal) → RootReady s root → JudgesRest s root size (2 ^ 26) r → JudgesParts (UvmFree root size) (RestReady root size) s r
-rest_judged s root size r f j = j s (whole s root f)

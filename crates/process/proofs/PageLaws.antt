@@ -1,5 +1,5 @@
 -- A page that leaves without freeing before the other parts: what each way out of the judges says, and what doing it makes of a store. Assumes nothing.
-use mathlib.Core.Path.{◌≡◌, refl, sym, ap, ◌∙◌, subst}
+use mathlib.Core.Path.{◌≡◌, refl, ap, ◌∙◌, subst}
 use mathlib.Core.Logic.{inl, inr}
 use mathlib.Core.Bool.{false}
 use Prim.Native.Nat.{ℕ, ◌+◌, ◌/◌, ◌%◌}
@@ -9,7 +9,6 @@ use Rattle.refusal.specs.declared.Refusal.{Refusal}
 use Rattle.refusal.specs.Number.{number_of}
 use Rattle.store.specs.Store.{Store}
 use Rattle.store.specs.Outcome.{Smallest}
-use Rattle.well_formed.specs.Root.{Asked}
 use Rattle.unmap.specs.Leave.{LeaveReason, LeaveReady, leave_pages, CanLeave}
 use Rattle.unmap.specs.Unmap.{UnmapReason, UnmapReady}
 use Rattle.unmap.proofs.UnmapReasons.{by_pages}
@@ -55,9 +54,6 @@ module _ (s : Store) (root size : ℕ) (f : UnmapReady s root trampoline 1 false
   pub shared_judged : (r : Result Unit Refusal) → JudgesRest s root size (trampoline / 4096) r → JudgesParts (SharedFree root size) (SharedReady root size) s r
   shared_judged r j = page_then root trampoline (UvmFree root size) s refl can (RestReady root size) r (j s₁ cut)
 
-  pub can_ask : Asked s root (trapframe / 4096) 1
-  can_ask = record { at_root = f.at_root; pages = omega arith }
-
   -- ---- and then TRAPFRAME is judged, on the store as it is
 
   same : SamePages s s₁ root (trapframe / 4096) 1
@@ -85,23 +81,14 @@ module _ (s : Store) (root size : ℕ) (f : UnmapReady s root trampoline 1 false
 
 module _ (s : Store) (root size : ℕ) where
   module _ (f : SharedReady root size s) (t : Store) (e : t ≡ leave_pages s root (trampoline / 4096) 1 false) where
-    pub shared_rest : RestReady root size t
-    shared_rest = subst (RestReady root size) (sym e) f.rest
-
     pub shared_done : (v : ℕ) (u : Store) → UvmFree root size t (Ok v) u → SharedFree root size s (Ok v) u
     shared_done v u d =
         page_done root trampoline (UvmFree root size) s refl f.leave v u (subst (λ (x : Store). UvmFree root size x (Ok v) u) e d)
 
   module _ (f : ProcReady root size s) (t : Store) (e : t ≡ leave_pages s root (trampoline / 4096) 1 false) where
-    pub can_next : CanLeave t root (trapframe / 4096) 1 false
-    can_next = subst (λ (x : Store). CanLeave x root (trapframe / 4096) 1 false) (sym e) f.rest.leave
-
     module _ (t' : Store) (e' : t' ≡ leave_pages t root (trapframe / 4096) 1 false) where
       both_gone : t' ≡ leave_pages (leave_pages s root (trampoline / 4096) 1 false) root (trapframe / 4096) 1 false
       both_gone = e' ∙ ap (λ (x : Store). leave_pages x root (trapframe / 4096) 1 false) e
-
-      pub proc_rest : RestReady root size t'
-      proc_rest = subst (RestReady root size) (sym both_gone) f.rest.rest
 
       pub proc_done : (v : ℕ) (u : Store) → UvmFree root size t' (Ok v) u → ProcFree root size s (Ok v) u
       proc_done v u d =

@@ -3,11 +3,10 @@ use mathlib.Core.Path.{◌≡◌, refl, sym, ap, ◌∙◌, subst}
 use mathlib.Core.Logic.{inl, inr, by_cases}
 use mathlib.Core.Bool.{true, true≢false}
 use mathlib.Core.List.{List}
-use Prim.Native.Nat.{ℕ, zero, suc, ◌-◌, ◌*◌, ◌^◌, ◌≤◌, ◌<◌}
+use Prim.Native.Nat.{ℕ, zero, suc, ◌-◌, ◌^◌, ◌≤◌, ◌<◌}
 use native.Mathlib.Nat.{le_refl, zero-add}
 use native.Mathlib.Decide.{dec_lt}
 use native.Mathlib.Omega.{arith}
-use lib.ListN.{length}
 use Rattle.std.specs.Prelude.{Ok, Err}
 use Rattle.refusal.specs.declared.Refusal.{Refusal}
 use Rattle.refusal.specs.declared.Refusal.TheVariants.{TooHigh, NotMapped, PageLeft}
@@ -17,12 +16,11 @@ use Rattle.page_table_entry.specs.Layout.{bit_v}
 use Rattle.store.specs.Store.{Store, store_of}
 use Rattle.store.specs.Walk.{resolve}
 use Rattle.store.specs.Outcome.{Smallest}
-use Rattle.well_formed.specs.Root.{RootReady, Asked}
+use Rattle.well_formed.specs.Root.{RootReady}
 use Rattle.walk.specs.Mapped.{Mapped}
 use Rattle.walk.specs.Missing.{entry_in}
 use Rattle.walk.specs.Ranges.{PagesAlike}
 use Rattle.walk.proofs.Counts.{one_has, none_has}
-use Rattle.walk.proofs.Calls.{root_in}
 use Rattle.walk.proofs.Pages.{counted_mapped, mapped_counted}
 use Rattle.unmap.specs.Leave.{LeaveReason, pooled, unmapped, bare, LeaveReady, leave_pages, CanLeave}
 use Rattle.unmap.specs.Unmap.{Unmap}
@@ -39,7 +37,7 @@ use Rattle.process.specs.PartsReady.{RestReady, Cut, JudgesRest}
 use Rattle.release.proofs.FreeReasons.{still_mapped}
 use Rattle.process.proofs.StillRoot.{still_root}
 use Rattle.process.proofs.LeaveSame.{SamePages, ready_same, smallest_same}
-use Rattle.release.proofs.FreeLaws.{may_free, done}
+use Rattle.release.proofs.FreeLaws.{done}
 
 -- what is left when the pages of size have gone
 abbrev pub left : ℕ → ℕ → Store → Store
@@ -160,12 +158,6 @@ module _ (s : Store) (root size top : ℕ) (high : top ≤ 2 ^ 26) where
     page_missing h t c = past s root size top t c small (omega arith) (omega arith)
 
     module _ (h : n ≤ top) where
-      pub can_ask : RootReady s root → Asked s root 0 (n - 0) × (0 ≤ n)
-      can_ask r = (record { at_root = r; pages = omega arith }, omega arith)
-
-      pub can_count : RootReady s root → (root < 512) × (n ≤ top) × (top ≤ 2 ^ 26) × (0 < 1)
-      can_count r = (root_in s root r.sized r.is_root, h, high, omega arith)
-
       asked : n - 0 ≡ pages_to size
       asked = omega arith
 
@@ -190,19 +182,10 @@ module _ (s : Store) (root size top : ℕ) (high : top ≤ 2 ^ 26) where
 -- ---- the work, where it can be done
 
 module _ (s : Store) (root size : ℕ) (f : RestReady root size s) where
-  pub small : size ≤ 2 ^ 38
-  small = omega (arith, f.leave.asked.pages)
-
   module _ (n : ℕ) (e : n ≡ pages_to size) where
-    pub may_leave : CanLeave s root 0 n true
-    may_leave = subst (λ (x : ℕ). CanLeave s root 0 x true) (sym e) f.leave
-
     module _ (t : Store) (q : t ≡ leave_pages s root 0 n true) where
       free_ready : FreeReady t root
       free_ready = subst (λ (x : Store). FreeReady x root) (sym (q ∙ ap (λ (x : ℕ). leave_pages s root 0 x true) e)) f.free
-
-      pub may_free_rest : (root < length t.tmarks) × (length t.words ≡ 512 * length t.tmarks) × (2 ≤ 2)
-      may_free_rest = may_free t root free_ready
 
       pub rest_done : (ws ms : List ℕ) (v : ℕ) → trees ws ms v ≡ free_tree 2 root t.words t.tmarks → UvmFree root size s (Ok v) (store_of ws ms t.bytes t.fmarks)
       rest_done ws ms v d =
