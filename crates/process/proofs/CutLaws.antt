@@ -1,23 +1,26 @@
 -- Stores of which the pages of a root from some page on have gone, and a root that cannot be named. Assumes nothing.
 use mathlib.Core.Path.{◌≡◌, refl, sym, ap, ◌∙◌}
 use mathlib.Core.Logic.{inl, by_cases}
-use mathlib.Core.Bool.{false}
+use mathlib.Core.Bool.{true, false}
 use Prim.Native.Nat.{ℕ, zero, suc, ◌+◌, ◌^◌, ◌<◌}
 use native.Mathlib.Nat.{add-zero}
 use native.Mathlib.Decide.{ℕ_discrete}
 use native.Mathlib.Omega.{arith}
 use Rattle.std.specs.Prelude.{Err}
+use Rattle.refusal.specs.declared.Refusal.{Refusal}
+use Rattle.refusal.specs.Number.{number_of}
 use Rattle.store.specs.Store.{Store}
 use Rattle.store.specs.Walk.{resolve}
 use Rattle.store.specs.Outcome.{Smallest}
 use Rattle.well_formed.specs.Root.{RootReason, RootReady}
 use Rattle.unmap.specs.Leave.{leave_slot, leave_pages, CanLeave}
 use Rattle.unmap.specs.Gone.{Gone}
-use Rattle.unmap.proofs.UnmapReasons.{root_least}
+use Rattle.unmap.proofs.UnmapReasons as unmapping
 use Rattle.unmap.proofs.LeavePages.{leavable}
 use Rattle.unmap.proofs.GoneLaws.{pages_gone}
+use Rattle.shrink.specs.Sizes.{pages_to}
 use Rattle.process.specs.Parts.{UvmFree}
-use Rattle.process.specs.PartsReady.{JudgesParts, RestReady, Cut, JudgesRest}
+use Rattle.process.specs.PartsReady.{Cut}
 use Rattle.release.proofs.FreeReasons.{by_root}
 use Rattle.process.proofs.StillRoot.{still_root}
 
@@ -49,14 +52,6 @@ module _ (s : Store) (root top : ℕ) (t : Store) (c : Cut s root (top + 1) t) (
 
 -- ---- 1, 2 and 3 are refused by the first part, whichever it is
 
-module _ (s : Store) (root : ℕ) (k : ℕ) (j : Smallest (RootReason s root) k) where
-  refuses : (size : ℕ) → (k ≡ 0 → ⊥) → UvmFree root size s (Err k) s
-  refuses zero h = ((by_root s root k h j).reason h, refl)
-  refuses (suc size) h = (inl (root_least s root 0 _ _ k (j.reason h), refl), refl)
-
-  pub root_refused : (size : ℕ) → (k ≡ 0 → ⊥) → JudgesParts (UvmFree root size) (RestReady root size) s k
-  root_refused size h = record { ready = λ e. absurd (h e); reason = λ _. refuses size h }
-
--- nothing has gone before the last parts
-pub rest_judged : (s : Store) (root size k : ℕ) → RootReady s root → JudgesRest s root size (2 ^ 26) k → JudgesParts (UvmFree root size) (RestReady root size) s k
-rest_judged s root size k r j = j s (whole s root r)
+pub root_refused : (s : Store) (root size : ℕ) (k : Refusal) → Smallest (RootReason s root) (number_of k) → UvmFree root size s (Err k) s
+root_refused s root zero k m = (by_root s root (number_of k) m, refl)
+root_refused s root (suc size) k m = (inl (unmapping.by_root s root 0 (pages_to (suc size)) true (number_of k) m, refl), refl)

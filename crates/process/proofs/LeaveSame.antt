@@ -36,8 +36,5 @@ module _ {s t : Store} {r p n : ℕ} (e : SamePages s t r p n) (freeing : Bool) 
     full = λ i l h. f.full i l (ap flags (sym (e.pages i l)) ∙ h);
   }
 
-  pub judges_same : (k : ℕ) → Smallest (LeaveReason s r p n freeing) k → Smallest (LeaveReason t r p n freeing) k
-  judges_same k j = record {
-    ready = λ z. ready_same (j.ready z);
-    reason = λ h. let m = j.reason h in record { applies = carried e freeing k m.applies; least = λ i l q. m.least i l (carried (turned e) freeing i q) };
-  }
+  pub smallest_same : (k : ℕ) → Smallest (LeaveReason s r p n freeing) k → Smallest (LeaveReason t r p n freeing) k
+  smallest_same k m = record { applies = carried e freeing k m.applies; least = λ i l q. m.least i l (carried (turned e) freeing i q) }

@@ -160,7 +160,7 @@ module _ (s : Store) (z : Sized s) (c : WellFormed s) (t : ℕ) (s₁ : Store) (
         let j : gained 0 n ≡ pages_to n = omega arith in
         omega (arith, made.taken, g.tables, q.tables, ap free e, ap₂ (missing s₁ t) i j)
 
-    all_back : (s₃.words ≡ s.words) × (s₃.tmarks ≡ s.tmarks) → (Ok w ≡ Ok (suc (missing s₁ t 0 (pages_to n)))) × Restored s s₃
+    all_back : (s₃.words ≡ s.words) × (s₃.tmarks ≡ s.tmarks) → ◌≡◌ {A = Result ℕ Refusal} (Ok w) (Ok (suc (missing s₁ t 0 (pages_to n)))) × Restored s s₃
     all_back e = (ap Ok (answer e.1), restored e)
 
   -- ---- the release of k bytes, which are n
@@ -210,10 +210,10 @@ module _ (s : Store) (z : Sized s) (c : WellFormed s) (t : ℕ) (s₁ : Store) (
   empty_ready e = record { at_root = ready₂; unmapped = λ h. word_mapped s₂ g.sized g.well_formed t ready₂.is_root h.0 h.1 h.2 (past h.0 h.1 (omega arith)) }
 
   release : (k : ℕ) → n ≡ k → (a : Result ℕ Refusal) (s₃ : Store) → UvmFree t k s₂ a s₃ → (a ≡ Ok (suc (missing s₁ t 0 (pages_to n)))) × Restored s s₃
-  release zero e (Err j) s₃ x = absurd (clear s₂ t (empty_ready e) j x.0.applies)
+  release zero e (Err j) s₃ x = absurd (clear s₂ t (empty_ready e) _ x.0.applies)
   release zero e (Ok w) s₃ x = all_back w s₃ (uvm_free_gone t zero s₂ w s₃ ready₂ x) (tables_back s z c t made.was_free s₂ ready₂ others₂ w s₃ x)
-  release (suc k) e (Err j) s₃ (inl x, _) = absurd (unmapping.clear s₂ t 0 (pages_to (suc k)) true (unmap_ready (suc k) e) j x.0.applies)
-  release (suc k) e (Err j) s₃ (inr (i, s', x, y), _) = absurd (clear s' t (free_ready (suc k) e i s' x) j y.0.applies)
+  release (suc k) e (Err j) s₃ (inl x, _) = absurd (unmapping.clear s₂ t 0 (pages_to (suc k)) true (unmap_ready (suc k) e) _ x.0.applies)
+  release (suc k) e (Err j) s₃ (inr (i, s', x, y), _) = absurd (clear s' t (free_ready (suc k) e i s' x) _ y.0.applies)
   release (suc k) e (Ok w) s₃ (i, s', x, y) =
       all_back w s₃ (uvm_free_gone t (suc k) s₂ w s₃ ready₂ (i, s', x, y)) (tables_back s z c t made.was_free s' (ready' (suc k) e i s' x) (others' (suc k) e i s' x) w s₃ y)
 

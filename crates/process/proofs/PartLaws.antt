@@ -37,7 +37,7 @@ module _ (p q : Store → Result ℕ Refusal → Store → Type 0) (one_p : One 
       one_q s₁ a a' t t' y (subst (λ (u : Store). q u a' t') (sym (one_p s (Ok v) (Ok v') s₁ s₁' x x').1) y')
 
   -- the first part does not both refuse and succeed
-  never : (s : Store) (n v : ℕ) (t : Store) → p s (Err n) s → p s (Ok v) t → ⊥
+  never : (s : Store) (n : Refusal) (v : ℕ) (t : Store) → p s (Err n) s → p s (Ok v) t → ⊥
   unfolding kind
   never s n v t x y = let e : ◌≡◌ {A = ℕ} 0 1 = ap kind (one_p s (Err n) (Ok v) s t x y).0 in omega arith
 

@@ -1,5 +1,5 @@
 -- What the judges of the calls made of parts answer. They read the store as it is, and speak of what the parts before would leave.
-use Rattle.std.specs.Prelude.{◌≡◌, true, false, ℕ, ◌/◌, ◌^◌, ◌≤◌, ◌<◌, length, Result, Err}
+use Rattle.std.specs.Prelude.{◌≡◌, true, false, ℕ, ◌/◌, ◌^◌, ◌≤◌, ◌<◌, length, Result, Ok, Err}
 use Rattle.refusal.specs.declared.Refusal.{Refusal}
 use Rattle.store.specs.Store.{Store}
 use Rattle.store.specs.Walk.{resolve}
@@ -9,10 +9,10 @@ use Rattle.shrink.specs.Sizes.{pages_to}
 use Rattle.release.specs.Free.{FreeReady}
 use Rattle.process.specs.Parts.{UvmFree, trampoline, trapframe}
 
--- n is what call P is refused with on s, or 0 where F holds of s
-pub record JudgesParts (P : Store → Result ℕ Refusal → Store → Type 0) (F : Store → Type 0) (s : Store) (n : ℕ) : Type 0 where
-  pub ready : n ≡ 0 → F s
-  pub reason : (n ≡ 0 → ⊥) → P s (Err n) s
+-- what a judge of call P answers on s: what P is refused with, or that F holds of s
+abbrev pub JudgesParts : (P : Store → Result ℕ Refusal → Store → Type 0) → (F : Store → Type 0) → Store → Result Unit Refusal → Type 0
+JudgesParts P F s (Ok u) = F s
+JudgesParts P F s (Err r) = P s (Err r) s
 
 -- the pages of size can leave with freeing, and then the root can be freed
 pub record RestReady (root size : ℕ) (s : Store) : Type 0 where
@@ -37,6 +37,6 @@ pub record Cut (s : Store) (root top : ℕ) (s' : Store) : Type 0 where
   pub gone : (p : ℕ) → top ≤ p → p < 2 ^ 26 → resolve s' root p ≡ 0
   pub frames : length s'.fmarks ≡ length s.fmarks
 
--- n judges the last parts, those of `UvmFree`, where the pages from page top on have gone before
-abbrev pub JudgesRest : Store → ℕ → ℕ → ℕ → ℕ → Type 0
-JudgesRest s root size top n = (s' : Store) → Cut s root top s' → JudgesParts (UvmFree root size) (RestReady root size) s' n
+-- r judges the last parts, those of `UvmFree`, where the pages from page top on have gone before
+abbrev pub JudgesRest : Store → ℕ → ℕ → ℕ → Result Unit Refusal → Type 0
+JudgesRest s root size top r = (s' : Store) → Cut s root top s' → JudgesParts (UvmFree root size) (RestReady root size) s' r

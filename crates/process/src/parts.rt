@@ -1,10 +1,8 @@
 // The calls made of parts, after `uvm_free`, `proc_free_pagetable` and `free_shared_user_pagetable` of page_table.rs: all parts are
 // judged, each on what the parts before it would leave, and then all are done.
-ghost use Rattle.std.specs.Prelude.{◌≡◌, false, ◌^◌, ◌≤◌};
+ghost use Rattle.std.specs.Prelude.{Ok, ◌^◌, ◌≤◌};
 ghost use Rattle.store.specs.Store.{store_of, seen};
-ghost use Rattle.store.specs.declared.Answer.TheVariants.{Done};
 ghost use Rattle.well_formed.specs.Root.{RootReady};
-ghost use Rattle.unmap.specs.Leave.{leave_pages, CanLeave};
 ghost use Rattle.process.specs.Parts.{UvmFree, SharedFree, ProcFree};
 ghost use Rattle.process.specs.PartsReady.{JudgesParts, RestReady, SharedReady, ProcReady, JudgesRest};
 
@@ -14,19 +12,14 @@ use store::Store;
 
 const PAGES: usize = 1 << 26;
 
-const TRAMPOLINE: u64 = 0x3F_FFFF_F000;
+const TRAMPOLINE: VirtualAddress = VirtualAddress(0x3F_FFFF_F000);
 
 const TRAMPOLINE_PAGE: usize = 0x3FF_FFFF;
 
 const TRAPFRAME_PAGE: usize = 0x3FF_FFFE;
 
-// What the last parts, unmapping from 0 to size and freeing, are refused with where the pages from top on have gone before, or 0.
-fn judge_rest(
-    store: &Store,
-    root: usize,
-    size: u64,
-    top: usize,
-) -> Result<(), Refusal>
+// Whether the last parts, unmapping from 0 to size and freeing, are refused where the pages from top on have gone before.
+fn judge_rest(store: &Store, root: usize, size: u64, top: usize) -> Result<(), Refusal>
     requires { RootReady (seen store.now) root × (top ≤ 2 ^ 26) }
     ensures { JudgesRest (seen store.now) root size top result }
 {
@@ -55,7 +48,7 @@ fn do_rest(
 ) -> u64
     requires { RestReady root size (store_of words.old tmarks.old bytes.now fmarks.old) }
     ensures { UvmFree root size
-        (store_of words.old tmarks.old bytes.now fmarks.old) (Done result)
+        (store_of words.old tmarks.old bytes.now fmarks.old) (Ok result)
         (store_of words.new tmarks.new bytes.now fmarks.new) }
 {
     unmap::leave_pages(
@@ -71,14 +64,9 @@ fn do_rest(
     release::free_table(words, tmarks, root, 2) as u64
 }
 
-// The smallest reason that a root cannot be named, or what the last parts are refused with, or 0.
-fn judge_uvm_free(
-    store: &Store,
-    root: u64,
-    size: u64,
-) -> Result<(), Refusal>
-    ensures { JudgesParts (UvmFree root size) (RestReady root size)
-        (seen store.now) result }
+// Whether the root can be named, and then the last parts.
+fn judge_uvm_free(store: &Store, root: u64, size: u64) -> Result<(), Refusal>
+    ensures { JudgesParts (UvmFree root size) (RestReady root size) (seen store.now) result }
 {
     well_formed::judge_root(store, root)?;
     judge_rest(store, root as usize, size, PAGES)
@@ -97,49 +85,22 @@ pub fn uvm_free(
         (store_of words.old tmarks.old bytes.now fmarks.old) result
         (store_of words.new tmarks.new bytes.now fmarks.new) }
 {
-    let store = Store { words, tmarks, bytes, fmarks };
+    let store = Store {
+        words,
+        tmarks,
+        bytes,
+        fmarks,
+    };
     judge_uvm_free(&store, root, size)?;
     Ok(do_rest(words, tmarks, bytes, fmarks, root as usize, size))
 }
 
-// Page p leaves without freeing, which cannot fail.
-fn leave_page(
-    words: &mut [u64],
-    tmarks: &[u32],
-    bytes: &[u8],
-    fmarks: &mut [u32],
-    root: usize,
-    p: usize,
-)
-    requires { CanLeave (store_of words.old tmarks.now bytes.now fmarks.old) root p 1 false }
-    ensures { store_of words.new tmarks.now bytes.now fmarks.new
-        ≡ leave_pages (store_of words.old tmarks.now bytes.now fmarks.old) root p 1 false }
+// Whether TRAMPOLINE can leave without freeing, and then the last parts.
+fn judge_shared(store: &Store, root: u64, size: u64) -> Result<(), Refusal>
+    ensures { JudgesParts (SharedFree root size) (SharedReady root size) (seen store.now) result }
 {
-    unmap::leave_pages(words, tmarks, bytes, fmarks, root, p, 1, false);
-}
-
-// What TRAMPOLINE or the last parts are refused with, or 0.
-fn judge_shared(
-    store: &Store,
-    root: u64,
-    size: u64,
-) -> Result<(), Refusal>
-    ensures { JudgesParts (SharedFree root size) (SharedReady root size)
-        (seen store.now) result }
-{
-    unmap::judge_unmap(
-        store,
-        root,
-        VirtualAddress(TRAMPOLINE),
-        1,
-        false,
-    )?;
-    judge_rest(
-        store,
-        root as usize,
-        size,
-        TRAMPOLINE_PAGE,
-    )
+    unmap::judge_unmap(store, root, TRAMPOLINE, 1, false)?;
+    judge_rest(store, root as usize, size, TRAMPOLINE_PAGE)
 }
 
 // As `uvm_free`, after TRAMPOLINE has left without freeing.
@@ -155,37 +116,35 @@ pub fn free_shared_user_pagetable(
         (store_of words.old tmarks.old bytes.now fmarks.old) result
         (store_of words.new tmarks.new bytes.now fmarks.new) }
 {
-    let store = Store { words, tmarks, bytes, fmarks };
+    let store = Store {
+        words,
+        tmarks,
+        bytes,
+        fmarks,
+    };
     judge_shared(&store, root, size)?;
-    leave_page(words, tmarks, bytes, fmarks, root as usize, TRAMPOLINE_PAGE);
-    Ok(do_rest(words, tmarks, bytes, fmarks, root as usize, size))
-}
-
-// What TRAMPOLINE, TRAPFRAME or the last parts are refused with, or 0.
-fn judge_proc(
-    store: &Store,
-    root: u64,
-    size: u64,
-) -> Result<(), Refusal>
-    ensures { JudgesParts (ProcFree root size) (ProcReady root size)
-        (seen store.now) result }
-{
-    unmap::judge_unmap(
-        store,
+    let root = root as usize;
+    unmap::leave_pages(
+        words,
+        tmarks,
+        bytes,
+        fmarks,
         root,
-        VirtualAddress(TRAMPOLINE),
+        TRAMPOLINE_PAGE,
         1,
         false,
-    )?;
-    let r = root as usize;
-    unmap::judge_leave(
-        store,
-        r,
-        TRAPFRAME_PAGE,
-        TRAPFRAME_PAGE + 1,
-        false,
-    )?;
-    judge_rest(store, r, size, TRAPFRAME_PAGE)
+    );
+    Ok(do_rest(words, tmarks, bytes, fmarks, root, size))
+}
+
+// Whether TRAMPOLINE and TRAPFRAME can leave without freeing, and then the last parts.
+fn judge_proc(store: &Store, root: u64, size: u64) -> Result<(), Refusal>
+    ensures { JudgesParts (ProcFree root size) (ProcReady root size) (seen store.now) result }
+{
+    unmap::judge_unmap(store, root, TRAMPOLINE, 1, false)?;
+    let root = root as usize;
+    unmap::judge_leave(store, root, TRAPFRAME_PAGE, TRAPFRAME_PAGE + 1, false)?;
+    judge_rest(store, root, size, TRAPFRAME_PAGE)
 }
 
 // As `uvm_free`, after TRAMPOLINE and TRAPFRAME have left without freeing.
@@ -201,9 +160,24 @@ pub fn proc_free_pagetable(
         (store_of words.old tmarks.old bytes.now fmarks.old) result
         (store_of words.new tmarks.new bytes.now fmarks.new) }
 {
-    let store = Store { words, tmarks, bytes, fmarks };
+    let store = Store {
+        words,
+        tmarks,
+        bytes,
+        fmarks,
+    };
     judge_proc(&store, root, size)?;
-    leave_page(words, tmarks, bytes, fmarks, root as usize, TRAMPOLINE_PAGE);
-    leave_page(words, tmarks, bytes, fmarks, root as usize, TRAPFRAME_PAGE);
-    Ok(do_rest(words, tmarks, bytes, fmarks, root as usize, size))
+    let root = root as usize;
+    unmap::leave_pages(
+        words,
+        tmarks,
+        bytes,
+        fmarks,
+        root,
+        TRAMPOLINE_PAGE,
+        1,
+        false,
+    );
+    unmap::leave_pages(words, tmarks, bytes, fmarks, root, TRAPFRAME_PAGE, 1, false);
+    Ok(do_rest(words, tmarks, bytes, fmarks, root, size))
 }

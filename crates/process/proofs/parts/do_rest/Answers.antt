@@ -1,23 +1,7 @@
 -- `process::parts::do_rest` meets its contract. Assumes nothing.
-use Rattle.process.proofs.RestLaws.{small, may_leave, may_free_rest, rest_done}
+use Rattle.process.proofs.RestLaws.{rest_done}
 use Rattle.store.specs.Store.{store_of}
 use Rattle.process.proofs.parts.do_rest.Goals as goal
-
-pub pages_to-requires : goal.pages_to-requires
-pages_to-requires c =
-    let a = c.args in
-    small (store_of a.words.now a.tmarks.now a.bytes.now a.fmarks.now) a.root a.size c.requires
-
-pub leave_pages-requires : goal.leave_pages-requires
-leave_pages-requires c =
-    let a = c.args in
-    may_leave (store_of a.words.now a.tmarks.now a.bytes.now a.fmarks.now) a.root a.size c.requires _ c.pages_to.ensures
-
-pub free_table-requires : goal.free_table-requires
-free_table-requires c =
-    let a = c.args in
-    let l = c.leave_pages in
-    may_free_rest (store_of a.words.now a.tmarks.now a.bytes.now a.fmarks.now) a.root a.size c.requires _ c.pages_to.ensures (store_of l.new.words a.tmarks.now a.bytes.now l.new.fmarks) l.ensures
 
 pub returns : goal.returns
 returns c =

@@ -1,24 +1,11 @@
 -- `process::parts::free_shared_user_pagetable` meets its contract. Assumes nothing.
-use Rattle.std.proofs.lemmas.Result.{err_from_is_err_and}
-use Rattle.process.proofs.PageLaws.{shared_rest, shared_done}
+use Rattle.process.proofs.PageLaws.{shared_done}
 use Rattle.store.specs.Store.{store_of}
 use Rattle.process.proofs.parts.free_shared_user_pagetable.Goals as goal
-
-pub returns-in_err-judge_shared : goal.returns-in_err-judge_shared
-returns-in_err-judge_shared c = let p = err_from_is_err_and c.from_residual.result c.from_residual.ensures.1 in rw (p.1, p.2) c.in_err-judge_shared.ensures
-
-pub leave_page-requires : goal.leave_page-requires
-leave_page-requires c = (c.in_ok-judge_shared.ensures).leave
-
-pub do_rest-requires : goal.do_rest-requires
-do_rest-requires c =
-    let a = c.args in
-    let l = c.leave_page in
-    shared_rest (store_of a.words.now a.tmarks.now a.bytes.now a.fmarks.now) a.root a.size (c.in_ok-judge_shared.ensures) (store_of l.new.words a.tmarks.now a.bytes.now l.new.fmarks) l.ensures
 
 pub returns : goal.returns
 returns c =
     let a = c.args in
-    let l = c.leave_page in
+    let l = c.leave_pages in
     let d = c.do_rest in
-    shared_done (store_of a.words.now a.tmarks.now a.bytes.now a.fmarks.now) a.root a.size (c.in_ok-judge_shared.ensures) (store_of l.new.words a.tmarks.now a.bytes.now l.new.fmarks) l.ensures _ (store_of d.new.words d.new.tmarks a.bytes.now d.new.fmarks) d.ensures
+    shared_done (store_of a.words.now a.tmarks.now a.bytes.now a.fmarks.now) a.root a.size c.in_ok-judge_shared.ensures (store_of l.new.words a.tmarks.now a.bytes.now l.new.fmarks) l.ensures _ (store_of d.new.words d.new.tmarks a.bytes.now d.new.fmarks) d.ensures

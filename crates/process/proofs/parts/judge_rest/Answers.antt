@@ -1,6 +1,6 @@
 -- `process::parts::judge_rest` meets its contract. Assumes nothing.
 use Rattle.std.proofs.lemmas.Result.{err_from_is_err_and}
-use Rattle.process.proofs.RestLaws.{size_refused, page_missing, can_ask, can_count, pages_refused, tree_refused, none_refused}
+use Rattle.process.proofs.RestLaws.{size_refused, page_missing, pages_refused, tree_refused, none_refused}
 use Rattle.store.specs.Store.{seen}
 use Rattle.process.proofs.parts.judge_rest.Goals as goal
 
@@ -9,33 +9,23 @@ returns-then-size-gt-MAXVA c =
     let a = c.args in
     size_refused (seen a.store.now) a.root a.size a.top c.requires.1 c.if-size-gt-MAXVA.true
 
-pub pages_to-n-requires : goal.pages_to-n-requires
-pages_to-n-requires c = c.if-size-gt-MAXVA.false
-
 pub returns-then-n-top : goal.returns-then-n-top
 returns-then-n-top c =
     let a = c.args in
     page_missing (seen a.store.now) a.root a.size a.top c.requires.1 c.if-size-gt-MAXVA.false _ c.pages_to-n.ensures c.if-n-top.true
 
-pub judge_leave-no-requires : goal.judge_leave-no-requires
-judge_leave-no-requires c =
-    let a = c.args in
-    can_ask (seen a.store.now) a.root a.size a.top c.requires.1 c.if-size-gt-MAXVA.false _ c.pages_to-n.ensures c.if-n-top.false c.requires.0
-
 pub returns-in_err-judge_leave : goal.returns-in_err-judge_leave
-returns-in_err-judge_leave c = let p = err_from_is_err_and c.from_residual.result c.from_residual.ensures.1 in rw (p.1, p.2) (let a = c.args in pages_refused (seen a.store.now) a.root a.size a.top c.requires.1 c.if-size-gt-MAXVA.false _ c.pages_to-n.ensures c.if-n-top.false _ c.in_err-judge_leave.ensures)
-
-pub count_pages-requires : goal.count_pages-requires
-count_pages-requires c =
+returns-in_err-judge_leave c =
     let a = c.args in
-    can_count (seen a.store.now) a.root a.size a.top c.requires.1 c.if-size-gt-MAXVA.false _ c.pages_to-n.ensures c.if-n-top.false c.requires.0
+    let p = err_from_is_err_and c.from_residual.result c.from_residual.ensures.1 in rw (p.1, p.2)
+    (pages_refused (seen a.store.now) a.root a.size a.top c.requires.1 c.if-size-gt-MAXVA.false _ c.pages_to-n.ensures c.if-n-top.false _ c.in_err-judge_leave.ensures)
 
 pub returns-then-count_pages-ne0 : goal.returns-then-count_pages-ne0
 returns-then-count_pages-ne0 c =
     let a = c.args in
-    tree_refused (seen a.store.now) a.root a.size a.top c.requires.1 c.if-size-gt-MAXVA.false _ c.pages_to-n.ensures c.if-n-top.false _ c.judge_leave-no.ensures c.if-no-ne0.false _ c.count_pages.ensures c.if-count_pages-ne0.true
+    tree_refused (seen a.store.now) a.root a.size a.top c.requires.1 c.if-size-gt-MAXVA.false _ c.pages_to-n.ensures c.if-n-top.false c.in_ok-judge_leave.ensures _ c.count_pages.ensures c.if-count_pages-ne0.true
 
 pub returns : goal.returns
 returns c =
     let a = c.args in
-    none_refused (seen a.store.now) a.root a.size a.top c.requires.1 c.if-size-gt-MAXVA.false _ c.pages_to-n.ensures c.if-n-top.false _ c.judge_leave-no.ensures c.if-no-ne0.false _ c.count_pages.ensures c.if-count_pages-ne0.false
+    none_refused (seen a.store.now) a.root a.size a.top c.requires.1 c.if-size-gt-MAXVA.false _ c.pages_to-n.ensures c.if-n-top.false c.in_ok-judge_leave.ensures _ c.count_pages.ensures c.if-count_pages-ne0.false

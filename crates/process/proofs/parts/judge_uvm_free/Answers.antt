@@ -1,18 +1,11 @@
 -- `process::parts::judge_uvm_free` meets its contract. Assumes nothing.
-use native.Mathlib.Omega.{arith}
 use Rattle.std.proofs.lemmas.Result.{err_from_is_err_and}
-use Rattle.process.proofs.CutLaws.{root_refused, rest_judged}
+use Rattle.process.proofs.CutLaws.{root_refused}
 use Rattle.store.specs.Store.{seen}
 use Rattle.process.proofs.parts.judge_uvm_free.Goals as goal
 
 pub returns-in_err-judge_root : goal.returns-in_err-judge_root
-returns-in_err-judge_root c = let p = err_from_is_err_and c.from_residual.result c.from_residual.ensures.1 in rw (p.1, p.2) let a = c.args in
-    root_refused (seen a.store.now) a.root _ c.judge_root-no.ensures a.size c.if-no-ne0.true
-
-pub judge_rest-requires : goal.judge_rest-requires
-judge_rest-requires c = (c.in_ok-judge_root.ensures, omega arith)
-
-pub returns : goal.returns
-returns c =
+returns-in_err-judge_root c =
     let a = c.args in
-    rest_judged (seen a.store.now) a.root a.size _ (c.in_ok-judge_root.ensures) c.judge_rest.ensures
+    let p = err_from_is_err_and c.from_residual.result c.from_residual.ensures.1 in rw (p.1, p.2)
+    (root_refused (seen a.store.now) a.root a.size _ c.in_err-judge_root.ensures)
