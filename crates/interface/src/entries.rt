@@ -5,7 +5,7 @@ ghost use Rattle.page_table_entry.specs.Change.{with_bit};
 ghost use Rattle.page_table_entry.specs.Built.{named, written};
 ghost use Rattle.replies.specs.Reply.{reply_of};
 
-use address::PhysicalAddress;
+use address::{Address, PhysicalAddress};
 use page_table_entry::PageTableEntry;
 use replies::Reply;
 
