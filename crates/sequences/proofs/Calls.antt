@@ -6,7 +6,8 @@ use Prim.Native.Nat.{ℕ, zero, suc}
 use lib.ListN.{length}
 use Rattle.std.specs.Prelude.{Result, Ok, Err}
 use Rattle.refusal.specs.declared.Refusal.{Refusal}
-use Rattle.address.specs.Answer.{refused, number_said}
+use Rattle.refusal.specs.Number.{number_of}
+use Rattle.address.specs.Answer.{refused, said, number_said}
 use Rattle.store.specs.Store.{Store}
 use Rattle.store.specs.SetUp.{SetUp}
 use Rattle.store.proofs.SetUp.{one_set_up}
@@ -56,8 +57,8 @@ use Rattle.sequences.proofs.Lawful.{Lawful, writing, reading, filling}
 module _ (root va : ℕ) (s : Store) (b : List ℕ) where
   in_ends : (r : Result ℕ Refusal) (b' : List ℕ) → In s root va b r b'
       → ((number_said r).number ≡ 0) ⊎ ((n : ℕ) × Listed n (numbers (copy_in root va)) × (number_said r ≡ refused n) × (b' ≡ b))
-  unfolding number_said
-  in_ends (Err n) b' p = inr (n, copy_listed p.0.applies, refl, p.1)
+  unfolding said
+  in_ends (Err n) b' p = inr (number_of n, copy_listed p.0.applies, refl, p.1)
   in_ends (Ok v) b' p = inl refl
 
   in_size : (r : Result ℕ Refusal) (b' : List ℕ) → In s root va b r b' → length b' ≡ length b
@@ -67,12 +68,12 @@ module _ (root va : ℕ) (s : Store) (b : List ℕ) where
   str_ends : (r : Result StrRead Refusal) (b' : List ℕ) → Str s root va b r b'
       → ((str_said r).number ≡ 0) ⊎ ((n : ℕ) × Listed n (numbers (copy_in_str root va)) × (str_said r ≡ refused n) × (b' ≡ b))
   unfolding str_said
-  str_ends (str.Refused n) b' p = inr (n, str_listed p.0.applies, refl, p.1)
-  str_ends (str.Read n met) b' p = inl refl
+  str_ends (Err n) b' p = inr (number_of n, str_listed p.0.applies, refl, p.1)
+  str_ends (Ok r) b' p = inl refl
 
   str_size : (r : Result StrRead Refusal) (b' : List ℕ) → Str s root va b r b' → length b' ≡ length b
-  str_size (str.Refused n) b' p = ap length p.1
-  str_size (str.Read n met) b' p = (text_read s root va b n met b' p).size
+  str_size (Err n) b' p = ap length p.1
+  str_size (Ok r) b' p = (text_read s root va b r.bytes r.met b' p).size
 
 -- a refusal of a call made of parts leaves the store
 uvm_free_no : (root size : ℕ) (s : Store) (n : Refusal) (s' : Store) → UvmFree root size s (Err n) s' → s' ≡ s

@@ -5,9 +5,9 @@ use mathlib.Core.List.{List}
 use Prim.Native.Nat.{ℕ}
 use lib.ListN.{length}
 use Rattle.std.specs.Prelude.{Result, Ok, Err}
-use Rattle.refusal.specs.declared.Refusal.{Refusal}
+use Rattle.refusal.specs.declared.Refusal.{Refusal as Reason}
 use Rattle.refusal.specs.Number.{number_of}
-use Rattle.address.specs.Answer.{Said, refused, number_said}
+use Rattle.address.specs.Answer.{Said, refused, number_said, said as spoken}
 use Rattle.store.specs.Store.{Store}
 use Rattle.process.proofs.PartLaws.{One}
 use Rattle.sequences.specs.Call.{Call, Lent, lent}
@@ -34,15 +34,15 @@ refusal c l a l' n h e same =
 
 -- ---- the store is lent for writing
 
-module _ (c : Call) (P : Store → Result ℕ Refusal → Store → Type 0) (no : (s : Store) (n : Refusal) (s' : Store) → P s (Err n) s' → Listed (number_of n) (numbers c) × (s' ≡ s))
+module _ (c : Call) (P : Store → Result ℕ Reason → Store → Type 0) (no : (s : Store) (n : Reason) (s' : Store) → P s (Err n) s' → Listed (number_of n) (numbers c) × (s' ≡ s))
     (done : (s : Store) (v : ℕ) (s' : Store) → P s (Ok v) s' → Left s s') (one : One P) where
-  left : (s : Store) (r : Result ℕ Refusal) (s' : Store) → P s r s' → Left s s'
+  left : (s : Store) (r : Result ℕ Reason) (s' : Store) → P s r s' → Left s s'
   left s (Err n) s' p = subst (Left s) (sym (no s n s' p).1) (record { lengths = as_it_is s; sound = λ o. o })
   left s (Ok v) s' p = done s v s' p
 
-  ends : (l : Lent) (a : Said) (l' : Lent) (r : Result ℕ Refusal) → P l.store r l'.store → a ≡ number_said r → l'.buffer ≡ l.buffer → AnsweredOrRefused c l a l'
-  unfolding number_said
-  ends l a l' (Err n) p e b = let q = no l.store n l'.store p in inr (refusal c l a l' n q.0 e (λ i. lent (q.1 i) (b i)))
+  ends : (l : Lent) (a : Said) (l' : Lent) (r : Result ℕ Reason) → P l.store r l'.store → a ≡ number_said r → l'.buffer ≡ l.buffer → AnsweredOrRefused c l a l'
+  unfolding spoken
+  ends l a l' (Err n) p e b = let q = no l.store n l'.store p in inr (refusal c l a l' (number_of n) q.0 e (λ i. lent (q.1 i) (b i)))
   ends l a l' (Ok v) p e b = inl (ap (λ (x : Said). x.number) e)
 
   pub writing : Lawful c (λ l. Writes (P l.store) l)
@@ -57,11 +57,11 @@ module _ (c : Call) (P : Store → Result ℕ Refusal → Store → Type 0) (no 
 
 -- ---- the store is lent for reading
 
-module _ (c : Call) (P : Store → Result ℕ Refusal → Type 0) (no : (s : Store) (n : Refusal) → P s (Err n) → Listed (number_of n) (numbers c))
-    (one : (s : Store) (a a' : Result ℕ Refusal) → P s a → P s a' → a ≡ a') where
-  said : (l : Lent) (a : Said) (l' : Lent) (r : Result ℕ Refusal) → P l.store r → a ≡ number_said r → l' ≡ l → AnsweredOrRefused c l a l'
-  unfolding number_said
-  said l a l' (Err n) p e same = inr (refusal c l a l' n (no l.store n p) e same)
+module _ (c : Call) (P : Store → Result ℕ Reason → Type 0) (no : (s : Store) (n : Reason) → P s (Err n) → Listed (number_of n) (numbers c))
+    (one : (s : Store) (a a' : Result ℕ Reason) → P s a → P s a' → a ≡ a') where
+  said : (l : Lent) (a : Said) (l' : Lent) (r : Result ℕ Reason) → P l.store r → a ≡ number_said r → l' ≡ l → AnsweredOrRefused c l a l'
+  unfolding spoken
+  said l a l' (Err n) p e same = inr (refusal c l a l' (number_of n) (no l.store n p) e same)
   said l a l' (Ok v) p e same = inl (ap (λ (x : Said). x.number) e)
 
   pub reading : Lawful c (λ l. Reads (P l.store) l)

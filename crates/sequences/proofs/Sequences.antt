@@ -7,7 +7,8 @@ use native.Mathlib.Omega.{arith}
 use lib.ListN.{length}
 use Rattle.std.specs.Prelude.{Result, Ok, Err}
 use Rattle.refusal.specs.declared.Refusal.{Refusal}
-use Rattle.address.specs.Answer.{Said, number_said}
+use Rattle.refusal.proofs.Numbers.{not_zero}
+use Rattle.address.specs.Answer.{Said, number_said, said}
 use Rattle.store.specs.Store.{Store}
 use Rattle.store.specs.SetUp.{SetUp}
 use Rattle.sequences.specs.Call.{Call, Lent, lent}
@@ -39,10 +40,8 @@ kept s (x ∷ xs) o q =
 
 -- a set-up that says 0 has been answered
 begun : (s : Store) (a : Said) (s' : Store) (r : Result ℕ Refusal) → SetUp s r s' → a ≡ number_said r → a.number ≡ 0 → Sound s'
-unfolding number_said among
-begun s a s' (Err n) u e z =
-    let n0 : n ≡ 0 = ap (λ (x : Said). x.number) (sym e) ∙ z in
-    absurd (false≢true (subst (λ (k : ℕ). Listed k (1 ∷ [])) n0 (set_up_listed u.0.applies)))
+unfolding said
+begun s a s' (Err n) u e z = absurd (not_zero n (ap (λ (x : Said). x.number) (sym e) ∙ z))
 begun s a s' (Ok v) u e z = set_up_sound s v s' u
 
 pub kept_from_set_up : KeptFromSetUp

@@ -1,6 +1,5 @@
 -- What holds of every sequence of calls, from any store.
 use Rattle.std.specs.Prelude.{◌≡◌, ◌⊎◌, ◌↔◌, List, ◌∷◌, ◌++◌, length}
-use Rattle.refusal.specs.declared.Refusal.{Refusal}
 use Rattle.address.specs.Answer.{Said, refused}
 use Rattle.store.specs.Store.{Store, Sized}
 use Rattle.store.specs.WellFormed.{WellFormed}
