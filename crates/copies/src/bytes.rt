@@ -31,7 +31,7 @@ pub fn read_bytes(
         let a = va + (i as u64);
         let k = walk::lesser(4096 - (a % 4096) as usize, dst.len() - i);
         let from = place(words, root, a);
-        store::copy_bytes(&mut dst[i..i + k], &bytes[from..from + k]);
+        dst[i..i + k].copy_from_slice(&bytes[from..from + k]);
         i += k;
     }
 }
@@ -54,7 +54,7 @@ pub fn write_bytes(
         let a = va + (i as u64);
         let k = walk::lesser(4096 - (a % 4096) as usize, src.len() - i);
         let to = place(words, root, a);
-        store::copy_bytes(&mut bytes[to..to + k], &src[i..i + k]);
+        bytes[to..to + k].copy_from_slice(&src[i..i + k]);
         i += k;
     }
 }

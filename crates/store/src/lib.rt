@@ -3,7 +3,6 @@
 #![tactic(auto)]
 
 mod count;
-mod fill;
 mod marks;
 
 ghost use Rattle.store.specs.Says.{Says};
@@ -11,7 +10,6 @@ ghost use Rattle.store.specs.Store.{store_of, Sized};
 ghost use Rattle.store.specs.SetUp.{SetUp};
 
 pub use count::{count_free, enough_free};
-pub use fill::{copy_bytes, zero_bytes, zero_words};
 pub use marks::{level_of, lowest_free, lowest_from, mark_at, word_at};
 
 // What a call answers: the value that document 01 names, or the number of a refusal.
@@ -57,9 +55,9 @@ pub fn set_up(words: &mut [u64], tmarks: &mut [u32], bytes: &mut [u8], fmarks: &
     if !sized(words, tmarks, bytes, fmarks) {
         return Answer::Refused(1);
     }
-    fill::zero_words(words);
-    fill::zero_marks(tmarks);
-    fill::zero_bytes(bytes);
-    fill::zero_marks(fmarks);
+    words.fill(0);
+    tmarks.fill(0);
+    bytes.fill(0);
+    fmarks.fill(0);
     Answer::Done(0)
 }
