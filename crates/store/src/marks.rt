@@ -38,7 +38,6 @@ pub fn level_of(tmarks: &[u32], t: usize) -> usize
 }
 
 // The lowest table or frame whose mark is 0, or their number where none is.
-#[tactic(auto, using(crate::proofs::Free::lowest_position))]
 pub fn lowest_free(marks: &[u32]) -> usize
     ensures { result ≡ lowest marks.now }
 {

@@ -1,5 +1,5 @@
 -- `store::count::count_free` meets its contract. Assumes nothing.
-use Rattle.std.proofs.Common.{List, ℕ, sym, ap, ◌∙◌, arith, eqb}
+use Rattle.std.proofs.Common.{sym, ap, ◌∙◌, arith, eqb}
 use Rattle.std.specs.List.{count_by}
 use lib.Seq.{take_all}
 use Rattle.store.proofs.Free.{free_counts}

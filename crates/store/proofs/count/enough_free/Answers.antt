@@ -1,5 +1,5 @@
 -- `store::count::enough_free` meets its contract. Assumes nothing.
-use Rattle.std.proofs.Common.{◌≡◌, List, ℕ, ◌+◌, ◌*◌, ◌++◌, [], ◌∷◌, length, drop, refl, sym, ap, ◌∙◌, rules, arith, length-append, drop-drop, length-drop}
+use Rattle.std.proofs.Common.{◌≡◌, List, ℕ, ◌+◌, ◌*◌, ◌++◌, [], ◌∷◌, length, drop, refl, sym, ap, ◌∙◌, arith, length-append, drop-drop, length-drop}
 use Rattle.std.proofs.lemmas.List.{drop_at}
 use Rattle.std.specs.Slice.Iter.{chunks_exact_rest}
 use Rattle.store.specs.Count.{free}

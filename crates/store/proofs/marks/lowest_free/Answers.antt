@@ -1,5 +1,5 @@
 -- `store::marks::lowest_free` meets its contract. Assumes nothing.
-use Rattle.std.proofs.Common.{◌≡◌, sym, ◌∙◌, ap, eqb, rules, tests, length}
+use Rattle.std.proofs.Common.{◌≡◌, ◌∙◌, ap, eqb, rules, tests, length}
 use Rattle.std.specs.List.{position}
 use Rattle.std.specs.Option.{unwrap_or}
 use Rattle.std.proofs.lemmas.Iterator.{YieldsList-from_slice}
