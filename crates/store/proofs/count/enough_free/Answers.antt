@@ -1,8 +1,7 @@
 -- `store::count::enough_free` meets its contract. Assumes nothing.
-use Rattle.std.proofs.Common.{◌≡◌, List, ℕ, ◌+◌, ◌*◌, ◌++◌, [], ◌∷◌, length, drop, refl, sym, ap, ◌∙◌, arith, length-append, drop-drop, length-drop}
+use Rattle.std.proofs.Common.{◌≡◌, List, ℕ, ◌+◌, ◌*◌, ◌++◌, length, drop, refl, sym, ap, ◌∙◌, arith, drop-drop}
 use Rattle.std.proofs.lemmas.List.{drop_at}
-use Rattle.std.specs.Slice.Iter.{chunks_exact_rest}
-use Rattle.store.specs.Count.{free}
+use Rattle.std.proofs.lemmas.Grind.{common_steps}
 use Rattle.store.proofs.Free.{free_append}
 use Rattle.store.proofs.count.enough_free.Goals as goal
 
@@ -15,11 +14,9 @@ pub loop-part-preserved : goal.loop-part-preserved
 loop-part-preserved c =
     let h = c.in-Some.ensures.steps in
     let l = c.loop-part in
-    let i = l.invariant in
-    let more = length-append l.yielded (c.in-Some.part ∷ []) in
     record {
-      counted = omega (arith, c.count_free-n.ensures, ap free h.1.0, free_append c.in-Some.part.now (chunks_exact_rest c.next.new.self));
-      size = h.0 ∙ i.size;
-      left = left_behind c.args.marks.now c.in-Some.part.now _ (64 * length l.yielded) _ (sym h.1.0 ∙ i.left) (omega (arith, more));
-      within = omega (arith, more, ap length h.1.0, ap length i.left, length-append c.in-Some.part.now (chunks_exact_rest c.next.new.self), length-drop (64 * length l.yielded) c.args.marks.now);
+      counted = grind (arith, common_steps, free_append);
+      size = cc;
+      left = left_behind c.args.marks.now c.in-Some.part.now _ (64 * length l.yielded) _ (sym h.1.0 ∙ l.invariant.left) (grind (arith, common_steps));
+      within = grind (arith, common_steps);
     }
