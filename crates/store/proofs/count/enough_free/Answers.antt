@@ -2,6 +2,8 @@
 use Rattle.std.proofs.Common.{◌≡◌, List, ℕ, ◌+◌, ◌*◌, ◌++◌, length, drop, refl, sym, ap, ◌∙◌, arith, drop-drop}
 use Rattle.std.proofs.lemmas.List.{drop_at}
 use Rattle.std.proofs.lemmas.Grind.{common_steps}
+use Rattle.std.specs.Slice.Iter.{chunks_exact_rest}
+use Rattle.store.specs.Count.{free}
 use Rattle.store.proofs.Free.{free_append}
 use Rattle.store.proofs.count.enough_free.Goals as goal
 
@@ -15,7 +17,7 @@ loop-part-preserved c =
     let h = c.in-Some.ensures.steps in
     let l = c.loop-part in
     record {
-      counted = grind (arith, common_steps, free_append);
+      counted = omega (arith, c.count_free-n.ensures, ap free h.1.0, free_append c.in-Some.part.now (chunks_exact_rest c.next.new.self));
       size = cc;
       left = left_behind c.args.marks.now c.in-Some.part.now _ (64 * length l.yielded) _ (sym h.1.0 ∙ l.invariant.left) (grind (arith, common_steps));
       within = grind (arith, common_steps);
