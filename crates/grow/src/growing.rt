@@ -41,7 +41,7 @@ fn grow_pages(
     let mut i = 0;
     while i < n {
         let f = fresh::enter_frame(words, tmarks, fmarks, root, first + i, 31, from);
-        store::zero_bytes(&mut bytes[4096 * f..4096 * f + 4096]);
+        bytes[4096 * f..4096 * f + 4096].fill(0);
         from = f + 1;
         i += 1;
     }

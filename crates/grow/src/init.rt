@@ -26,8 +26,8 @@ fn write_frame(frame: &mut [u8], src: &[u8])
     ensures { frame.new ≡ padded src.now }
 {
     let n = src.len();
-    store::copy_bytes(&mut frame[..n], src);
-    store::zero_bytes(&mut frame[n..]);
+    frame[..n].copy_from_slice(src);
+    frame[n..].fill(0);
 }
 
 // Page 0 gets a fresh frame with the source and then zeros.

@@ -29,7 +29,7 @@ fn wipe_table(words: &mut [u64], tmarks: &mut [u32], t: usize)
     requires { (t < length tmarks.old) × (length words.old ≡ 512 * length tmarks.old) }
     ensures { (words.new ≡ zeroed words.old t) × (tmarks.new ≡ set tmarks.old t 0) }
 {
-    store::zero_words(&mut words[512 * t..512 * t + 512]);
+    words[512 * t..512 * t + 512].fill(0);
     tmarks[t] = 0;
 }
 

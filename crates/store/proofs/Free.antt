@@ -1,10 +1,19 @@
 -- The lowest free mark, and how many are free. Assumes nothing.
 use mathlib.Core.Path.{◌≡◌, refl, sym, ap, ◌∙◌}
-use mathlib.Core.List.{List, [], ◌∷◌}
-use Prim.Native.Nat.{ℕ, zero, suc, ◌+◌, ◌≤◌, ◌<◌}
+use mathlib.Core.List.{List, [], ◌∷◌, ◌++◌}
+use Prim.Native.Nat.{ℕ, zero, suc, ◌+◌, ◌-◌, ◌≤◌, ◌<◌}
 use native.Mathlib.Nat.{add-zero, suc-add, add-suc}
+use native.Mathlib.Decide.{dec_lt}
 use native.Mathlib.Omega.{arith}
-use lib.ListN.{length, get_or}
+use lib.ListN.{length, get_or, take, drop, length-drop}
+use lib.Seq.{take_all}
+use borrow.Author.Tests.{ne_eqb}
+use Rattle.std.proofs.Common.{cond, eqb, ltb, false, Some, None}
+use Rattle.std.proofs.lemmas.Bool.{lt-ltb, le-ltb}
+use Rattle.std.specs.List.{count_by, position, position_or_len}
+use Rattle.std.specs.Option.{unwrap_or}
+use Rattle.std.proofs.lemmas.List.Recursion.{is_count_by, is_position_or_len}
+use Rattle.std.proofs.lemmas.List.Sums.{sum_by-append}
 use Rattle.store.specs.Store.{mark}
 use Rattle.store.specs.Count.{lowest, is_zero, zeros, free}
 
@@ -52,3 +61,53 @@ pub lowest_le : (ms : List ℕ) → lowest ms ≤ length ms
 lowest_le [] = omega arith
 lowest_le (zero ∷ l) = omega arith
 lowest_le (suc x ∷ l) = omega (arith, lowest_le l)
+
+-- the marks behind the first one
+zeros_behind : (x : ℕ) (ms : List ℕ) (n c : ℕ) → zeros (mark (x ∷ ms)) n (suc c) ≡ zeros (mark ms) n c
+unfolding zeros
+zeros_behind x ms zero c = refl
+zeros_behind x ms (suc n) c = ap (λ (k : ℕ). is_zero (mark ms c) + k) (zeros_behind x ms n (suc c))
+
+not_zero : (x : ℕ) → eqb (suc x) 0 ≡ false
+not_zero x = ne_eqb (suc x) 0 (λ e. omega arith)
+
+free_cons : (x : ℕ) (ms : List ℕ) → free (x ∷ ms) ≡ cond (eqb x 0) (1 + free ms) (free ms)
+unfolding free zeros
+free_cons zero ms = ap (λ (k : ℕ). 1 + k) (zeros_behind zero ms (length ms) 0)
+free_cons (suc x) ms = rw (not_zero x) (omega (arith, zeros_behind (suc x) ms (length ms) 0))
+
+free_none : free [] ≡ 0
+unfolding free zeros
+free_none = refl
+
+-- the count and the lowest in the library's words
+pub free_counts : (ms : List ℕ) → free ms ≡ count_by (λ m. eqb m 0) ms
+free_counts = is_count_by free (λ m. eqb m 0) free_none free_cons
+
+pub lowest_position : (ms : List ℕ) → lowest ms ≡ position_or_len (λ m. eqb m 0) ms
+lowest_position = is_position_or_len lowest (λ m. eqb m 0) refl next
+  where
+    next : (x : ℕ) (ms : List ℕ) → lowest (x ∷ ms) ≡ cond (eqb x 0) 0 (1 + lowest ms)
+    next zero ms = refl
+    next (suc x) ms = rw (not_zero x) (omega arith)
+
+pub lowest_found : (ms : List ℕ) → unwrap_or (position (λ m. eqb m 0) ms) (length ms) ≡ lowest ms
+lowest_found ms = rw (sym (lowest_position ms)) (go (dec_lt (lowest ms) (length ms)))
+  where
+    go : Dec (lowest ms < length ms) → unwrap_or (cond (ltb (lowest ms) (length ms)) (Some (lowest ms)) None) (length ms) ≡ lowest ms
+    go (yes p) = rw (lt-ltb _ _ p)
+    go (no np) = let l : length ms ≤ lowest ms = omega arith in rw (le-ltb _ _ l) (omega (arith, lowest_le ms))
+
+-- two parts joined
+pub free_append : (xs ys : List ℕ) → free (xs ++ ys) ≡ free xs + free ys
+free_append xs ys = rw (free_counts xs, free_counts ys, free_counts (xs ++ ys)) (sum_by-append (λ m. cond (eqb m 0) 1 0) xs ys)
+
+behind : (ms : List ℕ) (i : ℕ) → i ≤ lowest ms → i + lowest (drop i ms) ≡ lowest ms
+behind ms zero h = omega arith
+behind [] (suc i) h = absurd (omega arith)
+behind (zero ∷ ms) (suc i) h = absurd (omega arith)
+behind (suc x ∷ ms) (suc i) h = omega (arith, behind ms i (omega arith))
+
+-- a search that begins at i, below which there is none
+pub lowest_behind : (ms : List ℕ) (i : ℕ) → i ≤ lowest ms → i + lowest (take (length ms - i) (drop i ms)) ≡ lowest ms
+lowest_behind ms i h = omega (arith, behind ms i h, ap lowest (take_all (length ms - i) (drop i ms) (simp length-drop (omega arith))))

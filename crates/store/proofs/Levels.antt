@@ -2,7 +2,7 @@
 use mathlib.Core.Path.{◌≡◌, refl, sym, ap, ◌∙◌}
 use mathlib.Core.Logic.{◌⊎◌, inl, inr, ⊎_elim}
 use mathlib.Core.List.{List}
-use Prim.Native.Nat.{ℕ, zero, suc, ◌≤◌, ◌<◌}
+use Prim.Native.Nat.{ℕ, zero, suc, ◌≤◌}
 use native.Mathlib.Omega.{arith}
 use Rattle.store.specs.Store.{mark}
 use Rattle.store.specs.Level.{home, lower, under, climb, level}
@@ -83,62 +83,3 @@ module _ (ms : List ℕ) (t : ℕ) where
   level_less h i =
       let e = climb_under (mark ms) 2 t h ∙ ap lower (steady (mark ms) (home (mark ms t)) i) in
       ⊎_elim (λ p. p ∙ ap suc (sym (e ∙ ap lower p))) (λ p. p ∙ ap suc (sym (e ∙ ap lower p))) i
-
-  -- what `level_of` finds: the mark above is 1; it is free; the mark above that is 1, or is not
-  pub level_one : 2 ≤ mark ms t → mark ms (home (mark ms t)) ≡ 1 → level ms t ≡ 1
-  unfolding level
-  level_one h e = climb_under (mark ms) 2 t h ∙ ap lower (climb_root (mark ms) 1 (home (mark ms t)) e)
-
-  pub level_adrift : 2 ≤ mark ms t → mark ms (home (mark ms t)) ≡ 0 → level ms t ≡ 3
-  unfolding level
-  level_adrift h e = climb_under (mark ms) 2 t h ∙ ap lower (climb_free (mark ms) 1 (home (mark ms t)) e)
-
-  level_two_up : 2 ≤ mark ms t → 2 ≤ mark ms (home (mark ms t)) → level ms t ≡ lower (lower (climb (mark ms) 1 (home (mark ms (home (mark ms t))))))
-  unfolding level
-  level_two_up h g = climb_under (mark ms) 2 t h ∙ ap lower (climb_under (mark ms) 1 (home (mark ms t)) g)
-
-  pub level_zero : 2 ≤ mark ms t → 2 ≤ mark ms (home (mark ms t)) → mark ms (home (mark ms (home (mark ms t)))) ≡ 1 → level ms t ≡ 0
-  level_zero h g e = level_two_up h g ∙ ap (λ (l : ℕ). lower (lower l)) (climb_root (mark ms) 0 (home (mark ms (home (mark ms t)))) e)
-
-  pub level_deep : 2 ≤ mark ms t → 2 ≤ mark ms (home (mark ms t)) → (mark ms (home (mark ms (home (mark ms t)))) ≡ 1 → ⊥) → level ms t ≡ 3
-  unfolding climb
-  level_deep h g n = level_two_up h g ∙ ap (λ (l : ℕ). lower (lower l)) (go (three (mark ms (home (mark ms (home (mark ms t)))))))
-    where
-      go : (mark ms (home (mark ms (home (mark ms t)))) ≡ 0) ⊎ (mark ms (home (mark ms (home (mark ms t)))) ≡ 1) ⊎ (2 ≤ mark ms (home (mark ms (home (mark ms t))))) → climb (mark ms) 1 (home (mark ms (home (mark ms t)))) ≡ 3
-      go (inl z) = climb_free (mark ms) 0 _ z
-      go (inr (inl o)) = absurd (n o)
-      go (inr (inr b)) = climb_under (mark ms) 0 _ b
-
--- the same of a mark m and of the mark m1 above it, as they were read
-module _ (ms : List ℕ) (t m : ℕ) (em : m ≡ mark ms t) where
-  pub found_root : m ≡ 1 → 2 ≡ level ms t
-  found_root e = sym (level_root ms t (sym em ∙ e))
-
-  pub found_free : (m ≡ 1 → ⊥) → m < 2 → 3 ≡ level ms t
-  found_free n l = let z : m ≡ 0 = omega arith in sym (level_free ms t (sym em ∙ z))
-
-  module _ (h : 2 ≤ m) (m1 : ℕ) (e1 : m1 ≡ mark ms (home m)) where
-    two : 2 ≤ mark ms t
-    two = omega arith
-
-    up : m1 ≡ mark ms (home (mark ms t))
-    up = e1 ∙ ap (λ (x : ℕ). mark ms (home x)) em
-
-    pub found_one : m1 ≡ 1 → 1 ≡ level ms t
-    found_one e = sym (level_one ms t two (sym up ∙ e))
-
-    pub found_adrift : (m1 ≡ 1 → ⊥) → m1 < 2 → 3 ≡ level ms t
-    found_adrift n l = let z : m1 ≡ 0 = omega arith in sym (level_adrift ms t two (sym up ∙ z))
-
-    module _ (g : 2 ≤ m1) (m2 : ℕ) (e2 : m2 ≡ mark ms (home m1)) where
-      two_up : 2 ≤ mark ms (home (mark ms t))
-      two_up = omega (arith, up)
-
-      top : m2 ≡ mark ms (home (mark ms (home (mark ms t))))
-      top = e2 ∙ ap (λ (x : ℕ). mark ms (home x)) up
-
-      pub found_zero : m2 ≡ 1 → 0 ≡ level ms t
-      found_zero e = sym (level_zero ms t two two_up (sym top ∙ e))
-
-      pub found_deep : (m2 ≡ 1 → ⊥) → 3 ≡ level ms t
-      found_deep n = sym (level_deep ms t two two_up (λ e. n (top ∙ e)))

@@ -37,10 +37,7 @@ part_more g a i n l e z = omega (arith, part_next g a i l, ap is_zero z)
 pub part_pass : (g : ℕ → ℕ) (a i n : ℕ) → a ≤ i → n ≡ zeros g (i - a) a → (g i ≡ 0 → ⊥) → n ≡ zeros g (i + 1 - a) a
 part_pass g a i n l e z = omega (arith, part_next g a i l, is_zero_pos (g i) z)
 
--- all marks as one part, and as the first i and the rest
+-- all marks as one part
 pub free_part : (ms : List ℕ) → zeros (mark ms) (length ms - 0) 0 ≡ free ms
 unfolding free
 free_part ms = let e : length ms - 0 ≡ length ms = omega arith in ap (λ (n : ℕ). zeros (mark ms) n 0) e
-
-pub free_parts : (ms : List ℕ) (i : ℕ) → i ≤ length ms → zeros (mark ms) (i - 0) 0 + zeros (mark ms) (length ms - i) i ≡ free ms
-free_parts ms i l = part_join (mark ms) 0 i (length ms) (omega arith) l ∙ free_part ms

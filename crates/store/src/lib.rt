@@ -3,7 +3,6 @@
 #![tactic(auto)]
 
 mod count;
-mod fill;
 mod marks;
 
 ghost use Rattle.store.specs.Says.{Says};
@@ -11,7 +10,6 @@ ghost use Rattle.store.specs.Store.{store_of, seen, Sized};
 ghost use Rattle.store.specs.SetUp.{SetUp};
 
 pub use count::{count_free, enough_free};
-pub use fill::{copy_bytes, zero_bytes, zero_words};
 pub use marks::{level_of, lowest_free, lowest_from, mark_at, word_at};
 use refusal::Refusal;
 
@@ -70,9 +68,9 @@ pub fn set_up(
     if !store.sized() {
         return Err(Refusal::Sizes);
     }
-    fill::zero_words(words);
-    fill::zero_marks(tmarks);
-    fill::zero_bytes(bytes);
-    fill::zero_marks(fmarks);
+    words.fill(0);
+    tmarks.fill(0);
+    bytes.fill(0);
+    fmarks.fill(0);
     Ok(0)
 }

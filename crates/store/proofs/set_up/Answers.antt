@@ -12,6 +12,11 @@ returns c = (
   clear _ (yes c.sized.result c.if-not-sized.false c.sized.ensures),
   (
     refl,
-    λ i. record { words = c.zero_words.ensures i; tmarks = c.zero_marks.ensures i; bytes = c.zero_bytes.ensures i; fmarks = c.zero_marks-2.ensures i },
+    λ i. record {
+      words = c.fill.ensures.after (λ _ e. e) i;
+      tmarks = c.fill-2.ensures.after (λ _ e. e) i;
+      bytes = c.fill-3.ensures.after (λ _ e. e) i;
+      fmarks = c.fill-4.ensures.after (λ _ e. e) i;
+    },
   ),
 )

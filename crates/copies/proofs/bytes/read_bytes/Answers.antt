@@ -40,16 +40,16 @@ overflow_add-from c =
     let p = c.requires.pages l.i (inl q) in
     omega (arith, c.place-from.ensures a.store.now.tmarks.now a.store.now.bytes.now a.store.now.fmarks.now, page_room (seen a.store.now) a.root c.requires.at_root.sized (a.va + l.i) _ p (turn (a.va + l.i) _ _ c.lesser-k.ensures))
 
-pub slice_bounds-copy_bytes-end-in-loop-i : goal.slice_bounds-copy_bytes-end-in-loop-i
-slice_bounds-copy_bytes-end-in-loop-i c =
+pub slice_bounds-copy_from_slice-end-in-loop-i : goal.slice_bounds-copy_from_slice-end-in-loop-i
+slice_bounds-copy_from_slice-end-in-loop-i c =
     let a = c.args in
     let l = c.loop-i in
     let q : l.i < length a.dst.now = omega arith in
     let p = c.requires.pages l.i (inl q) in
     omega (arith, c.place-from.ensures a.store.now.tmarks.now a.store.now.bytes.now a.store.now.fmarks.now, page_room (seen a.store.now) a.root c.requires.at_root.sized (a.va + l.i) _ p (turn (a.va + l.i) _ _ c.lesser-k.ensures))
 
-pub copy_bytes-requires : goal.copy_bytes-requires
-copy_bytes-requires c =
+pub copy_from_slice-requires : goal.copy_from_slice-requires
+copy_from_slice-requires c =
     let a = c.args in
     let l = c.loop-i in
     let q : l.i < length a.dst.now = omega arith in
@@ -70,7 +70,7 @@ loop-i-preserved c =
     let p = c.requires.pages l.i (inl q) in (
       omega arith,
       search rules,
-      read_more (seen a.store.now) a.root a.va a.dst.now l.dst l.i l.invariant.2 _ _ (c.place-from.ensures a.store.now.tmarks.now a.store.now.bytes.now a.store.now.fmarks.now) (turn (a.va + l.i) _ _ c.lesser-k.ensures) (omega (arith, c.place-from.ensures a.store.now.tmarks.now a.store.now.bytes.now a.store.now.fmarks.now, page_room (seen a.store.now) a.root c.requires.at_root.sized (a.va + l.i) _ p (turn (a.va + l.i) _ _ c.lesser-k.ensures))) _ c.copy_bytes.ensures,
+      read_more (seen a.store.now) a.root a.va a.dst.now l.dst l.i l.invariant.2 _ _ (c.place-from.ensures a.store.now.tmarks.now a.store.now.bytes.now a.store.now.fmarks.now) (turn (a.va + l.i) _ _ c.lesser-k.ensures) (omega (arith, c.place-from.ensures a.store.now.tmarks.now a.store.now.bytes.now a.store.now.fmarks.now, page_room (seen a.store.now) a.root c.requires.at_root.sized (a.va + l.i) _ p (turn (a.va + l.i) _ _ c.lesser-k.ensures))) _ c.copy_from_slice.ensures.after,
     )
 
 pub returns : goal.returns

@@ -36,15 +36,15 @@ overflow_add-to c =
     let p = c.requires.pages l.i (inl c.loop-i-test.true) in
     omega (arith, c.place-to.ensures a.tmarks.now a.bytes.now a.fmarks.now, page_room (store_of a.words.now a.tmarks.now a.bytes.now a.fmarks.now) a.root c.requires.at_root.sized (a.va + l.i) _ p (turn (a.va + l.i) _ _ c.lesser-k.ensures))
 
-pub slice_bounds-copy_bytes-end : goal.slice_bounds-copy_bytes-end
-slice_bounds-copy_bytes-end c =
+pub slice_bounds-copy_from_slice-end : goal.slice_bounds-copy_from_slice-end
+slice_bounds-copy_from_slice-end c =
     let a = c.args in
     let l = c.loop-i in
     let p = c.requires.pages l.i (inl c.loop-i-test.true) in
     omega (arith, c.place-to.ensures a.tmarks.now a.bytes.now a.fmarks.now, page_room (store_of a.words.now a.tmarks.now a.bytes.now a.fmarks.now) a.root c.requires.at_root.sized (a.va + l.i) _ p (turn (a.va + l.i) _ _ c.lesser-k.ensures))
 
-pub copy_bytes-requires : goal.copy_bytes-requires
-copy_bytes-requires c =
+pub copy_from_slice-requires : goal.copy_from_slice-requires
+copy_from_slice-requires c =
     let a = c.args in
     let l = c.loop-i in
     let p = c.requires.pages l.i (inl c.loop-i-test.true) in
@@ -63,7 +63,7 @@ loop-i-preserved c =
     let p = c.requires.pages l.i (inl c.loop-i-test.true) in (
       omega arith,
       search rules,
-      write_more (store_of a.words.now a.tmarks.now a.bytes.now a.fmarks.now) a.root a.va a.src.now a.bytes.now l.bytes l.i l.invariant.2 _ _ (c.place-to.ensures a.tmarks.now a.bytes.now a.fmarks.now) (turn (a.va + l.i) _ _ c.lesser-k.ensures) (omega (arith, c.place-to.ensures a.tmarks.now a.bytes.now a.fmarks.now, page_room (store_of a.words.now a.tmarks.now a.bytes.now a.fmarks.now) a.root c.requires.at_root.sized (a.va + l.i) _ p (turn (a.va + l.i) _ _ c.lesser-k.ensures))) (omega (arith, c.lesser-k.ensures)) _ c.copy_bytes.ensures,
+      write_more (store_of a.words.now a.tmarks.now a.bytes.now a.fmarks.now) a.root a.va a.src.now a.bytes.now l.bytes l.i l.invariant.2 _ _ (c.place-to.ensures a.tmarks.now a.bytes.now a.fmarks.now) (turn (a.va + l.i) _ _ c.lesser-k.ensures) (omega (arith, c.place-to.ensures a.tmarks.now a.bytes.now a.fmarks.now, page_room (store_of a.words.now a.tmarks.now a.bytes.now a.fmarks.now) a.root c.requires.at_root.sized (a.va + l.i) _ p (turn (a.va + l.i) _ _ c.lesser-k.ensures))) (omega (arith, c.lesser-k.ensures)) _ c.copy_from_slice.ensures.after,
     )
 
 pub returns : goal.returns

@@ -43,8 +43,8 @@ overflow_add-f c =
     let l = c.loop-i in
     omega (arith, frame_in (store_of a.words.now a.tmarks.now a.bytes.now a.fmarks.now) a.root a.first a.n l.words l.tmarks l.bytes l.fmarks l.i l.from l.invariant.4 c.loop-i-test.true _ c.enter_frame-f.ensures.frame)
 
-pub slice_bounds-zero_bytes-end : goal.slice_bounds-zero_bytes-end
-slice_bounds-zero_bytes-end c =
+pub slice_bounds-fill-end : goal.slice_bounds-fill-end
+slice_bounds-fill-end c =
     let a = c.args in
     let l = c.loop-i in
     omega (arith, frame_in (store_of a.words.now a.tmarks.now a.bytes.now a.fmarks.now) a.root a.first a.n l.words l.tmarks l.bytes l.fmarks l.i l.from l.invariant.4 c.loop-i-test.true _ c.enter_frame-f.ensures.frame)
@@ -64,7 +64,7 @@ loop-i-preserved c =
       search rules,
       search rules,
       search rules,
-      after (store_of a.words.now a.tmarks.now a.bytes.now a.fmarks.now) a.root a.first a.n l.words l.tmarks l.bytes l.fmarks l.i l.from l.invariant.4 c.loop-i-test.true e.result e.new.words e.new.tmarks e.new.fmarks c.zero_bytes.new.s e.ensures c.zero_bytes.ensures,
+      after (store_of a.words.now a.tmarks.now a.bytes.now a.fmarks.now) a.root a.first a.n l.words l.tmarks l.bytes l.fmarks l.i l.from l.invariant.4 c.loop-i-test.true e.result e.new.words e.new.tmarks e.new.fmarks c.fill.new.self e.ensures (c.fill.ensures.after (λ _ e. e)),
     )
 
 pub returns : goal.returns

@@ -6,13 +6,13 @@ use native.Mathlib.Omega.{arith}
 use Rattle.grow.proofs.PaddedFrame.{frame_padded}
 use Rattle.grow.proofs.init.write_frame.Goals as goal
 
-pub slice_bounds-copy_bytes-end-2 : goal.slice_bounds-copy_bytes-end-2
-slice_bounds-copy_bytes-end-2 c = sym (length-take-le (length c.args.src.now) c.args.frame.now (omega (arith, c.requires)))
+pub slice_bounds-copy_from_slice-end-2 : goal.slice_bounds-copy_from_slice-end-2
+slice_bounds-copy_from_slice-end-2 c = sym (length-take-le (length c.args.src.now) c.args.frame.now (omega (arith, c.requires)))
 
-pub copy_bytes-requires : goal.copy_bytes-requires
-copy_bytes-requires c = length-take-le (length c.args.src.now) c.args.frame.now (omega (arith, c.requires))
+pub copy_from_slice-requires : goal.copy_from_slice-requires
+copy_from_slice-requires c = length-take-le (length c.args.src.now) c.args.frame.now (omega (arith, c.requires))
 
 pub returns : goal.returns
 returns c =
     let a = c.args in
-    frame_padded a.src.now a.frame.now c.requires.0 c.requires.1 c.copy_bytes.new.to c.zero_bytes.new.s c.copy_bytes.ensures c.zero_bytes.ensures
+    frame_padded a.src.now a.frame.now c.requires.0 c.requires.1 c.copy_from_slice.new.self c.fill.new.self c.copy_from_slice.ensures.after (c.fill.ensures.after (λ _ e. e))

@@ -8,4 +8,4 @@ use Rattle.release.proofs.tree.wipe_table.Goals as goal
 pub returns : goal.returns
 returns c =
     let a = c.args in
-    (put_zero (512 * a.t) ((512 * a.t + 512) - 512 * a.t) a.words.now c.zero_words.new.s (omega arith) (omega arith) c.zero_words.ensures, refl)
+    (put_zero (512 * a.t) ((512 * a.t + 512) - 512 * a.t) a.words.now c.fill.new.self (omega arith) (omega arith) (c.fill.ensures.after (λ _ e. e)), refl)

@@ -1,7 +1,11 @@
 -- `store::count::count_free` meets its contract. Assumes nothing.
-use mathlib.Core.Path.{◌∙◌}
-use Rattle.store.proofs.Parts.{free_part}
+use Rattle.std.proofs.Common.{sym, ap, ◌∙◌, arith, eqb}
+use Rattle.std.specs.List.{count_by}
+use lib.Seq.{take_all}
+use Rattle.store.proofs.Free.{free_counts}
 use Rattle.store.proofs.count.count_free.Goals as goal
 
 pub returns : goal.returns
-returns c = c.count_part.ensures ∙ free_part c.args.marks.now
+returns c =
+    let ms = c.args.marks.now in
+    c.loop-m.invariant ∙ ap (count_by (λ m. eqb m 0)) (take_all c.loop-m.m-index ms (omega arith)) ∙ sym (free_counts ms)

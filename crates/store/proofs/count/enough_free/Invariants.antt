@@ -1,13 +1,13 @@
--- The invariants of the loops.
-use mathlib.Core.Path.{◌≡◌}
-use Prim.Native.Nat.{◌-◌, ◌≤◌}
-use lib.ListN.{length}
-use Rattle.store.specs.Store.{mark}
-use Rattle.store.specs.Count.{zeros}
+-- The invariants of the loops: n marks are free before those that are left, and what is left begins at a multiple of 64.
+use Rattle.std.proofs.Common.{◌≡◌, ◌+◌, ◌*◌, ◌≤◌, length, drop}
+use Rattle.std.specs.Slice.Iter.{chunks_exact_rest, chunks_exact_size}
+use Rattle.store.specs.Count.{free}
 use Rattle.store.proofs.count.enough_free.Given as goal
 
-abbrev pub invariant-loop-n : goal.invariant-loop-n
-invariant-loop-n l = (l.i ≤ length l.marks) × (l.n ≡ zeros (mark l.marks) (l.i - 0) 0)
-
-abbrev pub decreases-loop-n : goal.decreases-loop-n
-decreases-loop-n l = length l.marks - l.i
+abbrev pub invariant-loop-part : goal.invariant-loop-part
+invariant-loop-part l = record {
+  counted : l.n + free (chunks_exact_rest l.part-iterator) ≡ free l.marks;
+  size : chunks_exact_size l.part-iterator ≡ 64;
+  left : chunks_exact_rest l.part-iterator ≡ drop (64 * length l.yielded) l.marks;
+  within : 64 * length l.yielded ≤ length l.marks;
+}
