@@ -2,12 +2,11 @@
 use mathlib.Core.Path.{◌≡◌, refl, sym, subst}
 use mathlib.Core.Logic.{by_cases}
 use Prim.Native.Nat.{ℕ, zero, suc, ◌+◌, ◌-◌, ◌≤◌, ◌<◌, zero-le}
-use native.Mathlib.Decide.{dec_lt}
-use native.Mathlib.Nat.{add-zero, add-suc}
+use native.Mathlib.Decide.{dec_le, dec_lt}
 use native.Mathlib.Numerals.{add-one}
 use native.Mathlib.Omega.{arith}
 use Rattle.store.specs.Sum.{sum}
-use Rattle.store.proofs.Sums.{sum_zero}
+use Rattle.store.proofs.Sums.{sum_cong, sum_split, sum_zero}
 use Rattle.well_formed.specs.Scan.{Each, Over}
 
 module _ (P : ℕ → Type 0) where
@@ -58,19 +57,22 @@ module _ (P Q : ℕ → Type 0) (a n : ℕ) where
   pub each_back : ((k : ℕ) → k < n → Q (a + k) → P k) → Each Q a (a + n) → Each P 0 n
   each_back back all k h l = back k l (all (a + k) (omega arith) (omega arith))
 
-module _ (g h : ℕ → ℕ) (a : ℕ) where
-  sums : (n : ℕ) → ((k : ℕ) → k < n → g k ≡ h (a + k)) → sum h (a + n) ≡ sum h a + sum g n
-  unfolding sum
-  sums zero same = rw (add-zero a) (omega arith)
-  sums (suc n) same = rw (add-suc a n) (omega (arith, sums n (λ k l. same k (omega arith)), same n (omega arith)))
+pub over_to : (g h : ℕ → ℕ) (a n m : ℕ) → ((k : ℕ) → k < n → g k ≡ h (a + k)) → Over g 0 n m → Over h a (a + n) m
+unfolding sum
+over_to g h a n m agree x = record { adds = omega (arith, x.adds, sum_cong g (λ k. h (a + k)) n agree, sum_split h a n); few = omega (arith, x.few) }
 
-  pub over_to : (n m : ℕ) → ((k : ℕ) → k < n → g k ≡ h (a + k)) → Over g 0 n m → Over h a (a + n) m
+-- the part counts the same for functions that agree on it
+module _ (g h : ℕ → ℕ) (a : ℕ) where
+  sums : (e : ℕ) → a ≤ e → ((k : ℕ) → a ≤ k → k < e → g k ≡ h k) → sum g e + sum h a ≡ sum h e + sum g a
   unfolding sum
-  over_to n m same x = record { adds = omega (arith, x.adds, sums n same); few = omega (arith, x.few) }
+  sums zero l same = let z : a ≡ 0 = omega arith in rw z refl
+  sums (suc e) l same =
+      by_cases (dec_le a e) (λ q. omega (arith, sums e q (λ k p m. same k p (omega arith)), same e q (omega arith)))
+      (λ n. let z : a ≡ suc e = omega arith in rw z (omega arith))
+
+  pub over_same : (e n : ℕ) → a ≤ e → ((k : ℕ) → a ≤ k → k < e → g k ≡ h k) → Over g a e n → Over h a e n
+  over_same e n l same x = record { adds = omega (arith, x.adds, sums e l same); few = x.few }
 
 -- where nothing is counted
 pub over_zero : (g : ℕ → ℕ) (a e : ℕ) → a ≤ e → ((k : ℕ) → a ≤ k → k < e → g k ≡ 0) → Over g a e 0
-over_zero g a e l none =
-    let z : a + (e - a) ≡ e = omega arith in
-    subst (λ (k : ℕ). Over g a k 0) z
-    (over_to (λ k. 0) g a (e - a) 0 (λ k h. sym (none (a + k) (omega arith) (omega arith))) (record { adds = omega (arith, sum_zero (λ k. 0) 0 (λ i m. refl), sum_zero (λ k. 0) (e - a) (λ i m. refl)); few = omega arith }))
+over_zero g a e l none = over_same (λ k. 0) g a e 0 l (λ k p q. sym (none k p q)) (record { adds = omega (arith, sum_zero (λ k. 0) a (λ i m. refl), sum_zero (λ k. 0) e (λ i m. refl)); few = omega arith })
