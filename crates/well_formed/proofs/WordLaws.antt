@@ -33,9 +33,10 @@ finds_none P h a e l none false s = s
 -- a part of level-0 words whose or is x, and the or of whose flags is y
 module _ (ws : List ℕ) (a e : ℕ) (l : a ≤ e) (x : ℕ) (o : OrOf ws a e x) where
   pub leaves_zero : x ≡ 0 → Finds (Shapes ws a e) (windowed ws) a e (Some 0)
-  leaves_zero z =
-      (λ k p q. record { valid = inl (zero k p q); clear = omega (arith, zero k p q) },
-      over_zero (windowed ws) a e l (λ k p q. same_no (word ws k / 2 ^ 27) 8 (λ h. omega (arith, zero k p q))))
+  leaves_zero z = (
+    λ k p q. record { valid = inl (zero k p q); clear = omega (arith, zero k p q) },
+    over_zero (windowed ws) a e l (λ k p q. same_no (word ws k / 2 ^ 27) 8 (λ h. omega (arith, zero k p q))),
+  )
     where
       zero : (k : ℕ) → a ≤ k → k < e → word ws k ≡ 0
       zero k p q = omega (arith, o.above k p q)

@@ -12,6 +12,6 @@ loop-word-preserved c =
     let i = c.loop-word.invariant in
     let counts = λ (n : ℕ). Over (windowed c.args.words.now) 0 (c.loop-word.word-index + 1) n in
     elim c.if-word-eq8.branch [
-      then-word-eq8 w ↦ subst⁻¹ counts w.n-is (over_one _ _ _ _ zero-le (same_yes _ 8 w.if-word-eq8.true) i)
+      | then-word-eq8 w ↦ subst⁻¹ counts w.n-is (over_one _ _ _ _ zero-le (same_yes _ 8 w.if-word-eq8.true) i)
       | else-word-eq8 w ↦ subst⁻¹ counts w.n-is (over_skip _ _ _ _ zero-le (same_no _ 8 w.if-word-eq8.false) i)
     ]
