@@ -21,7 +21,7 @@ pub fn run_of(words: &[u64], m: usize) -> usize
     if words[w] != 0 {
         return 1;
     }
-    if !well_formed::zeros(words, w, w + 64) {
+    if !well_formed::zeros(&words[w..w + 64]) {
         return 1;
     }
     64

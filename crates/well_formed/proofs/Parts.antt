@@ -1,12 +1,12 @@
 -- Claims and counts over a part, from a up to e: none, one more, joined, and the whole of them. Assumes nothing.
 use mathlib.Core.Path.{◌≡◌, refl, sym, subst}
 use mathlib.Core.Logic.{by_cases}
-use Prim.Native.Nat.{ℕ, zero, suc, ◌+◌, ◌≤◌, ◌<◌}
+use Prim.Native.Nat.{ℕ, zero, suc, ◌+◌, ◌-◌, ◌≤◌, ◌<◌, zero-le}
 use native.Mathlib.Decide.{dec_le, dec_lt}
 use native.Mathlib.Numerals.{add-one}
 use native.Mathlib.Omega.{arith}
 use Rattle.store.specs.Sum.{sum}
-use Rattle.store.proofs.Sums.{sum_zero}
+use Rattle.store.proofs.Sums.{sum_cong, sum_split, sum_zero}
 use Rattle.well_formed.specs.Scan.{Each, Over}
 
 module _ (P : ℕ → Type 0) where
@@ -44,6 +44,22 @@ module _ (g : ℕ → ℕ) where
 
   pub over_done : (a i e n : ℕ) → i ≤ e → e ≤ i → Over g a i n → Over g a e n
   over_done a i e n p q x = let z : i ≡ e = omega arith in subst (λ (k : ℕ). Over g a k n) z x
+
+-- a claim and a count of all before b, carried on over the part from b to d
+pub part_more : (P : ℕ → Type 0) (g : ℕ → ℕ) (b d e n m : ℕ) → b ≤ d → d ≡ e → Each P 0 b × Over g 0 b n → Each P b d × Over g b d m → Each P 0 e × Over g 0 e (n + m)
+part_more P g b d e n m l z p q = subst (λ (k : ℕ). Each P 0 k × Over g 0 k (n + m)) z (each_join P 0 b d p.0 q.0, over_join g 0 b d n m zero-le l p.1 q.1)
+
+-- a claim on the first n numbers, and a count of them, are moved to the n numbers from a on
+module _ (P Q : ℕ → Type 0) (a n : ℕ) where
+  pub each_to : ((k : ℕ) → k < n → P k → Q (a + k)) → Each P 0 n → Each Q a (a + n)
+  each_to to all k h l = let e : a + (k - a) ≡ k = omega arith in subst Q e (to (k - a) (omega arith) (all (k - a) (omega arith) (omega arith)))
+
+  pub each_back : ((k : ℕ) → k < n → Q (a + k) → P k) → Each Q a (a + n) → Each P 0 n
+  each_back back all k h l = back k l (all (a + k) (omega arith) (omega arith))
+
+pub over_to : (g h : ℕ → ℕ) (a n m : ℕ) → ((k : ℕ) → k < n → g k ≡ h (a + k)) → Over g 0 n m → Over h a (a + n) m
+unfolding sum
+over_to g h a n m agree x = record { adds = omega (arith, x.adds, sum_cong g (λ k. h (a + k)) n agree, sum_split h a n); few = omega (arith, x.few) }
 
 -- the part counts the same for functions that agree on it
 module _ (g h : ℕ → ℕ) (a : ℕ) where

@@ -3,9 +3,11 @@ use mathlib.Core.Path.{◌≡◌, sym, subst, ap, ◌∙◌}
 use mathlib.Core.Logic.{◌⊎◌, inl, inr, ⊎_elim, by_cases}
 use mathlib.Core.List.{List}
 use mathlib.Core.Bool.{Bool, true, false}
-use Prim.Native.Nat.{ℕ, ◌+◌, ◌/◌, ◌%◌, ◌^◌, ◌≤◌, ◌<◌}
+use Prim.Native.Nat.{ℕ, ◌+◌, ◌*◌, ◌/◌, ◌%◌, ◌^◌, ◌≤◌, ◌<◌}
 use native.Mathlib.Decide.{dec_lt}
 use native.Mathlib.Omega.{arith}
+use Rattle.std.proofs.Common.{Option, Some, None, length, slice_range}
+use Rattle.std.specs.Bool.{then_some}
 use Rattle.address.specs.Field.{bit}
 use Rattle.store.specs.Says.{Says}
 use Rattle.store.specs.Store.{word, mark}
@@ -14,52 +16,43 @@ use Rattle.store.specs.WellFormed.{Points}
 use Rattle.store.proofs.Sums.{same_times, same_none, same_no}
 use Rattle.store.proofs.Tests.{says_map}
 use Rattle.store.proofs.Levels.{level_free, level_root, root_level}
-use Rattle.well_formed.specs.declared.Part.{Part}
 use Rattle.well_formed.specs.Scan.{Zeros, Pointers, Root, Shape, Shapes, OrOf, FlagsOf, Over, Finds, in_window, windowed, leaf_windowed, WordOk, WordsOk}
-use Rattle.well_formed.proofs.Parts.{over_same, over_zero}
+use Rattle.well_formed.proofs.Parts.{each_to, each_back, over_to, over_zero}
+use Rattle.well_formed.proofs.Slices.{part_length, part_word, part_to, part_back}
 
--- an answer and its count, carried over to another claim and another function that agree
-module _ {P Q : Type 0} (to : P → Q) (back : Q → P) (g h : ℕ → ℕ) (a e : ℕ) (l : a ≤ e) (agree : (k : ℕ) → a ≤ k → k < e → g k ≡ h k) where
-  pub finds_map : (r : Part) → Finds P g a e r → Finds Q h a e r
-  finds_map r f = record { says = says_map r.ok to back f.says; counts = λ y. over_same g h a e r.held l agree (f.counts y) }
+-- what is found of the first n words is found of the n words from a on, for a claim and a count that agree
+pub finds_to : {P Q : Type 0} → (P → Q) → (Q → P) → (g h : ℕ → ℕ) (a n : ℕ) → ((k : ℕ) → k < n → g k ≡ h (a + k)) → (r : Option ℕ) → Finds P g 0 n r → Finds Q h a (a + n) r
+finds_to to back g h a n agree None f = λ q. f (back q)
+finds_to to back g h a n agree (Some m) f = (to f.0, over_to g h a n m agree f.1)
 
 -- a scan that only says, of a part in which nothing is counted
-pub finds_none : (P : Type 0) (h : ℕ → ℕ) (a e : ℕ) → a ≤ e → ((k : ℕ) → a ≤ k → k < e → h k ≡ 0) → (b : Bool) → Says b P → (r : Part) → (r.ok ≡ b) × (r.held ≡ 0) → Finds P h a e r
-finds_none P h a e l none b s r i =
-    record {
-      says = subst (λ (x : Bool). Says x P) (sym i.0) s;
-      counts = λ _. subst (λ (n : ℕ). Over h a e n) (sym i.1) (over_zero h a e l none);
-    }
-
--- the two ways in which a scan ends
-pub finds_not : (P : Type 0) (g : ℕ → ℕ) (a e n : ℕ) → (P → ⊥) → Finds P g a e (record { ok = false; held = n })
-finds_not P g a e n never = record { says = never; counts = λ y. let z : ◌≡◌ {A = ℕ} 0 1 = cc in absurd (omega arith) }
-
-pub finds_yes : (P : Type 0) (g : ℕ → ℕ) (a e n : ℕ) → P → Over g a e n → Finds P g a e (record { ok = true; held = n })
-finds_yes P g a e n p x = record { says = p; counts = λ _. x }
+pub finds_none : (P : Type 0) (h : ℕ → ℕ) (a e : ℕ) → a ≤ e → ((k : ℕ) → a ≤ k → k < e → h k ≡ 0) → (b : Bool) → Says b P → Finds P h a e (then_some b 0)
+finds_none P h a e l none true s = (s, over_zero h a e l none)
+finds_none P h a e l none false s = s
 
 -- a part of level-0 words whose or is x, and the or of whose flags is y
 module _ (ws : List ℕ) (a e : ℕ) (l : a ≤ e) (x : ℕ) (o : OrOf ws a e x) where
-  pub leaves_zero : x ≡ 0 → Finds (Shapes ws a e) (windowed ws) a e (record { ok = true; held = 0 })
-  leaves_zero z =
-      finds_yes _ _ a e 0 (λ k p q. record { valid = inl (zero k p q); clear = omega (arith, zero k p q) })
-      (over_zero (windowed ws) a e l (λ k p q. same_no (word ws k / 2 ^ 27) 8 (λ h. omega (arith, zero k p q))))
+  pub leaves_zero : x ≡ 0 → Finds (Shapes ws a e) (windowed ws) a e (Some 0)
+  leaves_zero z = (
+    λ k p q. record { valid = inl (zero k p q); clear = omega (arith, zero k p q) },
+    over_zero (windowed ws) a e l (λ k p q. same_no (word ws k / 2 ^ 27) 8 (λ h. omega (arith, zero k p q))),
+  )
     where
       zero : (k : ℕ) → a ≤ k → k < e → word ws k ≡ 0
       zero k p q = omega (arith, o.above k p q)
 
-  pub leaves_high : 2 ^ 54 ≤ x → Finds (Shapes ws a e) (windowed ws) a e (record { ok = false; held = 0 })
-  leaves_high h = finds_not _ _ a e 0 (λ all. omega (arith, o.within 54 (λ k p q. (all k p q).clear)))
+  pub leaves_high : 2 ^ 54 ≤ x → Finds (Shapes ws a e) (windowed ws) a e None
+  leaves_high h = λ all. omega (arith, o.within 54 (λ k p q. (all k p q).clear))
 
   module _ (y : ℕ) (f : FlagsOf ws a e y) where
-    pub leaves_even : (y % 2 ≡ 0 → ⊥) → Finds (Shapes ws a e) (windowed ws) a e (record { ok = false; held = 0 })
-    leaves_even n = finds_not _ _ a e 0 (λ all. n (f.even (λ k p q. (all k p q).valid)))
+    pub leaves_even : (y % 2 ≡ 0 → ⊥) → Finds (Shapes ws a e) (windowed ws) a e None
+    leaves_even n = λ all. n (f.even (λ k p q. (all k p q).valid))
 
-    pub leaves_count : x < 2 ^ 54 → y % 2 ≡ 0 → (n : ℕ) → Over (windowed ws) a e n → Finds (Shapes ws a e) (windowed ws) a e (record { ok = true; held = n })
-    leaves_count s v n = finds_yes _ _ a e n (λ k p q. record { valid = f.odd v k p q; clear = omega (arith, o.above k p q) })
+    pub leaves_count : x < 2 ^ 54 → y % 2 ≡ 0 → (n : ℕ) → Over (windowed ws) a e n → Finds (Shapes ws a e) (windowed ws) a e (Some n)
+    leaves_count s v n x = (λ k p q. record { valid = f.odd v k p q; clear = omega (arith, o.above k p q) }, x)
 
     -- a word of the held window has bit 30
-    pub leaves_out : x < 2 ^ 54 → y % 2 ≡ 0 → bit 30 x ≡ 0 → Finds (Shapes ws a e) (windowed ws) a e (record { ok = true; held = 0 })
+    pub leaves_out : x < 2 ^ 54 → y % 2 ≡ 0 → bit 30 x ≡ 0 → Finds (Shapes ws a e) (windowed ws) a e (Some 0)
     leaves_out s v z = leaves_count s v 0 (over_zero (windowed ws) a e l (λ k p q. same_no (word ws k / 2 ^ 27) 8 (λ h. omega (arith, o.bits 30 z k p q))))
 
 module _ (ws ms : List ℕ) (w : ℕ) where
@@ -94,59 +87,70 @@ module _ (ws ms : List ℕ) (w : ℕ) where
           w4 = λ q. absurd (n0 (el ∙ q));
         }
 
--- the words of the table that starts at a, of level l
-module _ (ws ms : List ℕ) (a l : ℕ) (al : a % 512 ≡ 0) (el : l ≡ level ms (a / 512)) where
+-- the words of table t, of level l, which are the part tb
+module _ (ws ms : List ℕ) (t l : ℕ) (el : l ≡ level ms t) where
   abbrev All : Type 0
-  All = WordsOk ws ms a (a + 512)
+  All = WordsOk ws ms (512 * t) (512 * t + 512)
 
-  table : (k : ℕ) → a ≤ k → k < a + 512 → a / 512 ≡ k / 512
+  table : (k : ℕ) → 512 * t ≤ k → k < 512 * t + 512 → t ≡ k / 512
   table k p q = omega arith
 
-  at : (k : ℕ) → a ≤ k → k < a + 512 → l ≡ level ms (k / 512)
+  at : (k : ℕ) → 512 * t ≤ k → k < 512 * t + 512 → l ≡ level ms (k / 512)
   at k p q = el ∙ ap (level ms) (table k p q)
 
-  marked : (k : ℕ) → a ≤ k → k < a + 512 → mark ms (a / 512) ≡ mark ms (k / 512)
+  marked : (k : ℕ) → 512 * t ≤ k → k < 512 * t + 512 → mark ms t ≡ mark ms (k / 512)
   marked k p q = ap (mark ms) (table k p q)
 
-  pub leaf_table : l ≡ 0 → (r : Part) → Finds (Shapes ws a (a + 512)) (windowed ws) a (a + 512) r → Finds All (leaf_windowed ws ms) a (a + 512) r
-  leaf_table z =
-      finds_map (λ all k p q. word_leaf ws ms k l (at k p q) z (all k p q)) (λ ok k p q. (ok k p q).w4 (sym (at k p q) ∙ z)) (windowed ws) (leaf_windowed ws ms) a (a + 512) (omega arith)
-      (λ k p q. sym (same_times (level ms (k / 512)) 0 (in_window (word ws k)) (sym (at k p q) ∙ z)))
+  here : (k : ℕ) → k < 512 → l ≡ level ms ((512 * t + k) / 512)
+  here k h = at (512 * t + k) (omega arith) (omega arith)
 
-  -- other levels count nothing
-  uncounted : (l ≡ 0 → ⊥) → (k : ℕ) → a ≤ k → k < a + 512 → leaf_windowed ws ms k ≡ 0
+  -- other levels than 0 count nothing
+  uncounted : (l ≡ 0 → ⊥) → (k : ℕ) → 512 * t ≤ k → k < 512 * t + 512 → leaf_windowed ws ms k ≡ 0
   uncounted n k p q = same_none (level ms (k / 512)) 0 (in_window (word ws k)) (λ e. n (at k p q ∙ e))
 
-  module _ (r : Part) (b : Bool) (i : (r.ok ≡ b) × (r.held ≡ 0)) where
-    pub inner_table : l ≡ 1 → Says b (Pointers ws ms a (a + 512)) → Finds All (leaf_windowed ws ms) a (a + 512) r
-    inner_table z s =
-        finds_none All (leaf_windowed ws ms) a (a + 512) (omega arith) (uncounted (λ e. omega arith)) b
-        (says_map b (λ all k p q. word_inner ws ms k l (at k p q) (inl z) (all k p q)) (λ ok k p q. (ok k p q).w3 (inr (sym (at k p q) ∙ z))) s)
-        r i
+  -- so a scan of such a table only says
+  says_table : {P : Type 0} → (l ≡ 0 → ⊥) → (P → All) → (All → P) → (b : Bool) → Says b P → Finds All (leaf_windowed ws ms) (512 * t) (512 * t + 512) (then_some b 0)
+  says_table n to back b s = finds_none All (leaf_windowed ws ms) (512 * t) (512 * t + 512) (omega arith) (uncounted n) b (says_map b to back s)
 
-    pub root_table : l ≡ 2 → Says b (Root ws ms a) → Finds All (leaf_windowed ws ms) a (a + 512) r
-    root_table z s =
-        finds_none All (leaf_windowed ws ms) a (a + 512) (omega arith) (uncounted (λ e. omega arith)) b
-        (says_map b
-        (λ f k p q.
-        by_cases (dec_lt k (a + 256))
-        (λ s. word_inner ws ms k l (at k p q) (inr (z, omega arith)) (f.low k p s))
-        (λ s. word_zero ws ms k (f.high k (omega arith) q)))
-        (λ ok. record {
-          low = λ k p q. (ok k p (omega arith)).w3 (inl (sym (at k p (omega arith)) ∙ z));
-          high = λ k p q. (ok k (omega arith) q).w3_root (root_level ms (k / 512) (sym (at k (omega arith) q) ∙ z)) (omega arith);
-        })
-        s)
-        r i
+  pub inner_table : l ≡ 1 → (b : Bool) → Says b (Pointers ws ms (512 * t) (512 * t + 512)) → Finds All (leaf_windowed ws ms) (512 * t) (512 * t + 512) (then_some b 0)
+  inner_table z =
+      says_table (λ e. omega arith) (λ all k p q. word_inner ws ms k l (at k p q) (inl z) (all k p q)) (λ ok k p q. (ok k p q).w3 (inr (sym (at k p q) ∙ z)))
 
-    pub free_table : (l ≡ 0 → ⊥) → (m : ℕ) → m ≡ mark ms (a / 512) → m ≡ 0 → Says b (Zeros ws a (a + 512)) → Finds All (leaf_windowed ws ms) a (a + 512) r
-    free_table n m em z s =
-        finds_none All (leaf_windowed ws ms) a (a + 512) (omega arith) (uncounted n) b
-        (says_map b (λ all k p q. word_zero ws ms k (all k p q)) (λ ok k p q. (ok k p q).w1 (sym (marked k p q) ∙ sym em ∙ z)) s)
-        r i
+  pub root_table : l ≡ 2 → (b : Bool) → Says b (Root ws ms (512 * t)) → Finds All (leaf_windowed ws ms) (512 * t) (512 * t + 512) (then_some b 0)
+  root_table z =
+      says_table (λ e. omega arith)
+      (λ f k p q.
+      by_cases (dec_lt k (512 * t + 256))
+      (λ s. word_inner ws ms k l (at k p q) (inr (z, omega arith)) (f.low k p s))
+      (λ s. word_zero ws ms k (f.high k (omega arith) q)))
+      (λ ok. record {
+        low = λ k p q. (ok k p (omega arith)).w3 (inl (sym (at k p (omega arith)) ∙ z));
+        high = λ k p q. (ok k (omega arith) q).w3_root (root_level ms (k / 512) (sym (at k (omega arith) q) ∙ z)) (omega arith);
+      })
 
-  pub lost_table : (r : Part) → (r.ok ≡ true) × (r.held ≡ 0) → (m : ℕ) → m ≡ mark ms (a / 512) → (m ≡ 0 → ⊥) → (l ≡ 0 → ⊥) → (l ≡ 1 → ⊥) → (l ≡ 2 → ⊥) → Finds All (leaf_windowed ws ms) a (a + 512) r
-  lost_table r i m em h n0 n1 n2 =
-      finds_none All (leaf_windowed ws ms) a (a + 512) (omega arith) (uncounted n0) true
-      (λ k p q. word_lost ws ms k l (at k p q) n0 n1 n2 (λ z. h (em ∙ marked k p q ∙ z)))
-      r i
+  pub lost_table : (l ≡ 0 → ⊥) → (l ≡ 1 → ⊥) → (l ≡ 2 → ⊥) → (mark ms t ≡ 0 → ⊥) → Finds All (leaf_windowed ws ms) (512 * t) (512 * t + 512) (Some 0)
+  lost_table n0 n1 n2 h =
+      (λ k p q. word_lost ws ms k l (at k p q) n0 n1 n2 (λ z. h (marked k p q ∙ z)), over_zero (leaf_windowed ws ms) (512 * t) (512 * t + 512) (omega arith) (uncounted n0))
+
+  module _ (fits : 512 * t + 512 ≤ length ws) where
+    abbrev part : List ℕ
+    part = slice_range ws (512 * t) (512 * t + 512)
+
+    size : length part ≡ 512
+    size = omega (arith, part_length ws (512 * t) (512 * t + 512) (omega arith) fits)
+
+    word_at : (k : ℕ) → k < 512 → word part k ≡ word ws (512 * t + k)
+    word_at k h = part_word ws (512 * t) (512 * t + 512) (omega arith) fits k (omega arith)
+
+    pub leaf_table : l ≡ 0 → (r : Option ℕ) → Finds (Shapes part 0 (length part)) (windowed part) 0 (length part) r → Finds All (leaf_windowed ws ms) (512 * t) (512 * t + 512) r
+    leaf_table z r f =
+        finds_to (each_to (λ k. Shape (word part k)) (WordOk ws ms) (512 * t) 512 (λ k h s. word_leaf ws ms (512 * t + k) l (here k h) z (subst Shape (word_at k h) s)))
+        (each_back (λ k. Shape (word part k)) (WordOk ws ms) (512 * t) 512 (λ k h ok. subst Shape (sym (word_at k h)) (ok.w4 (sym (here k h) ∙ z)))) (windowed part) (leaf_windowed ws ms) (512 * t) 512
+        (λ k h. ap in_window (word_at k h) ∙ sym (same_times (level ms ((512 * t + k) / 512)) 0 (in_window (word ws (512 * t + k))) (sym (here k h) ∙ z))) r
+        (subst (λ (n : ℕ). Finds (Shapes part 0 n) (windowed part) 0 n r) size f)
+
+    pub free_table : mark ms t ≡ 0 → (b : Bool) → Says b (Zeros part 0 (length part)) → Finds All (leaf_windowed ws ms) (512 * t) (512 * t + 512) (then_some b 0)
+    free_table z =
+        says_table (λ e. omega (arith, level_free ms t z))
+        (λ all k p q. word_zero ws ms k (part_to ws (512 * t) (512 * t + 512) (omega arith) fits (λ x. x ≡ 0) all k p q))
+        (λ ok. part_back ws (512 * t) (512 * t + 512) (omega arith) fits (λ x. x ≡ 0) (λ k p q. (ok k p q).w1 (sym (marked k p q) ∙ z)))

@@ -1,12 +1,10 @@
 -- What the scans of the words say, a part at a time.
-use Rattle.std.specs.Prelude.{◌≡◌, ◌⊎◌, true, List, ℕ, ◌+◌, ◌-◌, ◌*◌, ◌/◌, ◌%◌, ◌^◌, ◌≤◌, ◌<◌}
+use Rattle.std.specs.Prelude.{◌≡◌, ◌⊎◌, List, Option, Some, None, ℕ, ◌+◌, ◌-◌, ◌*◌, ◌/◌, ◌%◌, ◌^◌, ◌≤◌, ◌<◌}
 use Rattle.address.specs.Field.{bit}
-use Rattle.store.specs.Says.{Says}
 use Rattle.store.specs.Sum.{sum, same}
-use Rattle.store.specs.Store.{word, mark}
+use Rattle.store.specs.Store.{word, mark, pointer_to}
 use Rattle.store.specs.Level.{level}
 use Rattle.store.specs.WellFormed.{Inner, Pointed, Points, Named}
-use Rattle.well_formed.specs.declared.Part.{Part}
 
 -- P holds from a up to, not including, e
 abbrev pub Each : (ℕ → Type 0) → ℕ → ℕ → Type 0
@@ -59,10 +57,15 @@ pub record Over (g : ℕ → ℕ) (a e n : ℕ) : Type 0 where
   pub adds : sum g a + n ≡ sum g e
   pub few : n ≤ e - a
 
--- what a scan of a part finds: whether P holds of it, and then how many of its words g counts
-pub record Finds (P : Type 0) (g : ℕ → ℕ) (a e : ℕ) (r : Part) : Type 0 where
-  pub says : Says r.ok P
-  pub counts : r.ok ≡ true → Over g a e r.held
+-- what a scan of a part finds: how many of its words g counts where P holds of it, and None where P does not
+abbrev pub Finds : Type 0 → (ℕ → ℕ) → ℕ → ℕ → Option ℕ → Type 0
+Finds P g a e None = P → ⊥
+Finds P g a e (Some n) = P × Over g a e n
+
+-- the table that the word x points to, or None where x points to no table
+abbrev pub PointsTo : ℕ → Option ℕ → Type 0
+PointsTo x None = (t : ℕ) → x ≡ pointer_to t → ⊥
+PointsTo x (Some t) = x ≡ pointer_to t
 
 -- how many words of ws lie in the held window, all of them and those of level-0 tables
 abbrev pub windowed : List ℕ → ℕ → ℕ

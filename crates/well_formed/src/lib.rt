@@ -21,36 +21,19 @@ use refusal::Refusal;
 pub use scan::zeros;
 use store::Store;
 
-// What a scan of a part of the words finds: whether they are as they should be, and how many name a frame of the held window.
-#[derive(Drop)]
-pub struct Part {
-    ok: bool,
-    held: usize,
-}
-
 // Whether a store of the right sizes is well formed.
 fn formed(words: &[u64], tmarks: &[u32], bytes: &[u8], fmarks: &[u32]) -> bool
     requires { Sized (store_of words.now tmarks.now bytes.now fmarks.now) }
     ensures { Says result (WellFormed (store_of words.now tmarks.now bytes.now fmarks.now)) }
 {
-    let p = words::words_ok(words, tmarks);
-    if !p.ok {
+    let Some(held) = words::words_ok(words, tmarks) else {
         return false;
-    }
+    };
     if !tables::tables_ok(words, tmarks) {
         return false;
     }
     let used = fmarks.len() - store::count_free(fmarks);
-    if p.held != used {
-        return false;
-    }
-    if used == 0 {
-        return true;
-    }
-    if !frames::frames_ok(words, tmarks, fmarks) {
-        return false;
-    }
-    true
+    held == used && (used == 0 || frames::frames_ok(words, tmarks, fmarks))
 }
 
 // Refuses a store of the wrong sizes, or one that is not well formed.

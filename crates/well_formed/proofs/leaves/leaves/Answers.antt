@@ -1,37 +1,14 @@
--- `well_formed::leaves::leaves` meets its contract. The invariant: 64 words at a time are left. Assumes nothing.
+-- `well_formed::leaves::leaves` meets its contract. Assumes nothing.
 use native.Mathlib.Omega.{arith}
-use borrow.Author.Rules.{rules}
-use borrow.Author.Tests.{not-false}
-use Rattle.store.proofs.Tests.{not_left, not_taken}
-use Rattle.well_formed.proofs.Parts.{each_none, each_join, each_part, each_done, over_none, over_join, over_done}
-use Rattle.well_formed.proofs.WordLaws.{finds_not, finds_yes}
+use Rattle.well_formed.proofs.Chunks.{chunk_not, chunk_more}
 use Rattle.well_formed.proofs.leaves.leaves.Goals as goal
 
-pub loop-i-init : goal.loop-i-init
-loop-i-init c = (search rules, search rules, search rules, each_none _ _, over_none _ _)
+pub returns-in_err-held : goal.returns-in_err-held
+returns-in_err-held c =
+    let f = c.as_chunks.ensures in
+    rw c.from_residual.ensures (chunk_not _ _ f.front c.loop-part.part-index (omega (arith, f.front_len, c.loop-part-test.true)) c.in_err-held.ensures)
 
-pub returns-then-not-p : goal.returns-then-not-p
-returns-then-not-p c =
-    let p = c.leaves_few-p in
-    finds_not _ _ _ _ 0 (λ all. not_taken p.result.ok c.if-not-p.true p.ensures.says (each_part _ _ _ _ _ (omega arith) (omega arith) all))
-
-pub overflow_add-held : goal.overflow_add-held
-overflow_add-held c =
-    let p = c.leaves_few-p in
-    omega (arith, c.loop-i.invariant.4.few, (p.ensures.counts (not-false p.result.ok c.if-not-p.false)).few)
-
-pub loop-i-preserved : goal.loop-i-preserved
-loop-i-preserved c =
-    let p = c.leaves_few-p in
-    let i = c.loop-i.invariant in (
-      search rules,
-      search rules,
-      search rules,
-      each_join _ _ _ _ i.3 (not_left p.result.ok c.if-not-p.false p.ensures.says),
-      over_join _ _ _ _ _ _ i.0 (omega arith) i.4 (p.ensures.counts (not-false p.result.ok c.if-not-p.false)),
-    )
-
-pub returns : goal.returns
-returns c =
-    let i = c.loop-i.invariant in
-    finds_yes _ _ _ _ _ (each_done _ _ _ _ i.1 c.loop-i-test.false i.3) (over_done _ _ _ _ _ i.1 c.loop-i-test.false i.4)
+pub loop-part-preserved : goal.loop-part-preserved
+loop-part-preserved c =
+    let f = c.as_chunks.ensures in
+    chunk_more _ _ f.front _ (omega (arith, f.front_len, c.loop-part-test.true)) _ _ c.loop-part.invariant c.in_ok-held.ensures

@@ -1,16 +1,13 @@
 -- `well_formed::pointers::root_ok` meets its contract. Assumes nothing.
-use Rattle.store.proofs.Tests.{no, yes}
+use Rattle.std.proofs.Common.{◌≡◌, ◌+◌, arith}
+use Rattle.store.proofs.Tests.{says_map}
+use Rattle.well_formed.proofs.Slices.{part_to, part_back}
 use Rattle.well_formed.proofs.pointers.root_ok.Goals as goal
 
-pub returns-then-not-pointers : goal.returns-then-not-pointers
-returns-then-not-pointers c = λ r. no c.pointers.result c.if-not-pointers.true c.pointers.ensures r.low
-
-pub returns-then-not-zeros : goal.returns-then-not-zeros
-returns-then-not-zeros c = λ r. no c.zeros.result c.if-not-zeros.true c.zeros.ensures r.high
-
-pub returns : goal.returns
-returns c =
-    record {
-      low = yes c.pointers.result c.if-not-pointers.false c.pointers.ensures;
-      high = yes c.zeros.result c.if-not-zeros.false c.zeros.ensures;
-    }
+pub returns-then-pointers : goal.returns-then-pointers
+returns-then-pointers c =
+    let a = c.args in
+    says_map c.zeros.result
+    (λ z. record { low = c.if-pointers.ensures; high = part_to a.words.now (a.a + 256) (a.a + 512) (omega arith) c.requires (λ x. x ≡ 0) z })
+    (λ r. part_back a.words.now (a.a + 256) (a.a + 512) (omega arith) c.requires (λ x. x ≡ 0) r.high)
+    c.zeros.ensures

@@ -1,21 +1,17 @@
--- `well_formed::scan::count_held` meets its contract. The invariant: n of the words from a up to i are counted. Assumes nothing.
-use native.Mathlib.Omega.{arith}
-use borrow.Author.Rules.{rules}
+-- `well_formed::scan::count_held` meets its contract. Assumes nothing.
+use mathlib.Core.Path.{subst⁻¹}
+use Prim.Native.Nat.{ℕ, ◌+◌, zero-le}
 use Rattle.store.proofs.Sums.{same_yes, same_no}
-use Rattle.well_formed.proofs.Parts.{over_none, over_one, over_skip, over_done}
+use Rattle.well_formed.specs.Scan.{Over, windowed}
+use Rattle.well_formed.proofs.Parts.{over_one, over_skip}
+use Rattle.well_formed.proofs.scan.count_held.Goals.{then-word-eq8, else-word-eq8}
 use Rattle.well_formed.proofs.scan.count_held.Goals as goal
 
-pub loop-i-init : goal.loop-i-init
-loop-i-init c = (search rules, search rules, over_none _ _)
-
-pub overflow_add-n : goal.overflow_add-n
-overflow_add-n c = omega (arith, c.loop-i.invariant.2.few)
-
-pub loop-i-preserved-then-x-eq8 : goal.loop-i-preserved-then-x-eq8
-loop-i-preserved-then-x-eq8 c = (search rules, search rules, over_one _ _ _ _ c.loop-i.invariant.0 (same_yes _ 8 c.if-x-eq8.true) c.loop-i.invariant.2)
-
-pub loop-i-preserved : goal.loop-i-preserved
-loop-i-preserved c = (search rules, search rules, over_skip _ _ _ _ c.loop-i.invariant.0 (same_no _ 8 c.if-x-eq8.false) c.loop-i.invariant.2)
-
-pub returns : goal.returns
-returns c = over_done _ _ _ _ _ c.loop-i.invariant.1 c.loop-i-test.false c.loop-i.invariant.2
+pub loop-word-preserved : goal.loop-word-preserved
+loop-word-preserved c =
+    let i = c.loop-word.invariant in
+    let counts = λ (n : ℕ). Over (windowed c.args.words.now) 0 (c.loop-word.word-index + 1) n in
+    elim c.if-word-eq8.branch [
+      | then-word-eq8 w ↦ subst⁻¹ counts w.n-is (over_one _ _ _ _ zero-le (same_yes _ 8 w.if-word-eq8.true) i)
+      | else-word-eq8 w ↦ subst⁻¹ counts w.n-is (over_skip _ _ _ _ zero-le (same_no _ 8 w.if-word-eq8.false) i)
+    ]

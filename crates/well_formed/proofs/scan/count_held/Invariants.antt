@@ -1,10 +1,6 @@
 -- The invariants of the loops.
-use Prim.Native.Nat.{◌≤◌, ◌-◌}
 use Rattle.well_formed.specs.Scan.{Over, windowed}
 use Rattle.well_formed.proofs.scan.count_held.Given as goal
 
-abbrev pub invariant-loop-i : goal.invariant-loop-i
-invariant-loop-i l = (l.a ≤ l.i) × (l.i ≤ l.e) × Over (windowed l.words) l.a l.i l.n
-
-abbrev pub decreases-loop-i : goal.decreases-loop-i
-decreases-loop-i l = l.e - l.i
+abbrev pub invariant-loop-word : goal.invariant-loop-word
+invariant-loop-word l = Over (windowed l.words) 0 l.word-index l.n

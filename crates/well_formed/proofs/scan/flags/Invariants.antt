@@ -1,10 +1,6 @@
 -- The invariants of the loops.
 use Rattle.well_formed.specs.Scan.{FlagsOf}
-use Prim.Native.Nat.{◌≤◌, ◌-◌}
 use Rattle.well_formed.proofs.scan.flags.Given as goal
 
-abbrev pub invariant-loop-i : goal.invariant-loop-i
-invariant-loop-i l = (l.a ≤ l.i) × (l.i ≤ l.e) × FlagsOf l.words l.a l.i l.acc
-
-abbrev pub decreases-loop-i : goal.decreases-loop-i
-decreases-loop-i l = l.e - l.i
+abbrev pub invariant-loop-word : goal.invariant-loop-word
+invariant-loop-word l = FlagsOf l.words 0 l.word-index l.acc

@@ -1,20 +1,22 @@
 -- `well_formed::words::table_words_ok` meets its contract: each way out is a table of one level. Assumes nothing.
+use mathlib.Core.Path.{sym, ◌∙◌}
+use Rattle.std.proofs.Common.{rules}
 use Rattle.well_formed.proofs.WordLaws.{leaf_table, inner_table, root_table, free_table, lost_table}
 use Rattle.well_formed.proofs.words.table_words_ok.Goals as goal
 
-pub returns-then-level-eq0 : goal.returns-then-level-eq0
-returns-then-level-eq0 c = leaf_table _ _ _ _ c.requires.1 c.level_of-level.ensures c.if-level-eq0.true _ c.leaves.ensures
+pub returns-in-0 : goal.returns-in-0
+returns-in-0 c = leaf_table _ _ _ _ c.level_of.ensures c.requires c.in-0.is _ c.leaves.ensures
 
-pub returns-then-level-eq1 : goal.returns-then-level-eq1
-returns-then-level-eq1 c = inner_table _ _ _ _ c.requires.1 c.level_of-level.ensures _ c.pointers.result c.part.ensures c.if-level-eq1.true c.pointers.ensures
+pub returns-in-1 : goal.returns-in-1
+returns-in-1 c = rw c.then_some.ensures (inner_table _ _ _ _ c.level_of.ensures c.in-1.is _ c.pointers.ensures)
 
-pub returns-then-level-eq2 : goal.returns-then-level-eq2
-returns-then-level-eq2 c = root_table _ _ _ _ c.requires.1 c.level_of-level.ensures _ c.root_ok.result c.part-then-level-eq2.ensures c.if-level-eq2.true c.root_ok.ensures
+pub returns-in-2 : goal.returns-in-2
+returns-in-2 c = rw c.then_some-in-2.ensures (root_table _ _ _ _ c.level_of.ensures c.in-2.is _ c.root_ok.ensures)
 
-pub returns-then-m-ne0 : goal.returns-then-m-ne0
-returns-then-m-ne0 c =
-    lost_table _ _ _ _ c.requires.1 c.level_of-level.ensures _ c.part-then-m-ne0.ensures _ c.mark_at-m.ensures.0 c.if-m-ne0.true c.if-level-eq0.false c.if-level-eq1.false c.if-level-eq2.false
+pub returns-in_default : goal.returns-in_default
+returns-in_default c =
+    rw c.then_some-in_default.ensures (free_table _ _ _ _ c.level_of.ensures c.requires (sym c.mark_at.ensures.0 ∙ c.if-mark_at-eq0.true) _ c.zeros.ensures)
 
-pub returns : goal.returns
-returns c =
-    free_table _ _ _ _ c.requires.1 c.level_of-level.ensures _ c.zeros.result c.part-2.ensures c.if-level-eq0.false _ c.mark_at-m.ensures.0 c.if-m-ne0.false c.zeros.ensures
+pub returns-in_default-2 : goal.returns-in_default-2
+returns-in_default-2 c =
+    lost_table _ _ _ _ c.level_of.ensures (search rules) (search rules) (search rules) (λ z. c.if-mark_at-eq0.false (c.mark_at.ensures.0 ∙ z))
