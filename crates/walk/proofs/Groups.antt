@@ -1,7 +1,7 @@
 -- The tables that a range of pages lacks, group by group. Assumes nothing.
 use mathlib.Core.Path.{◌≡◌, refl, sym, ap, ap₂, ◌∙◌}
 use mathlib.Core.List.{List}
-use Prim.Native.Nat.{ℕ, zero, suc, ◌+◌, ◌-◌, ◌*◌, ◌/◌, ◌%◌, ◌^◌, ◌≤◌, ◌<◌}
+use Prim.Native.Nat.{ℕ, zero, suc, ◌+◌, ◌-◌, ◌*◌, ◌/◌, ◌%◌, ◌^◌, ◌≤◌, ◌<◌, min}
 use native.Mathlib.Omega.{arith}
 use Rattle.store.specs.Count.{is_zero, zeros}
 use Rattle.store.specs.Walk.{slot_word, slot_in, slot}
@@ -49,7 +49,7 @@ module _ (ws : List ℕ) (r g top : ℕ) (read : top ≡ slot_word ws (512 * r +
 pub record Counted (ws : List ℕ) (r p stop g b n : ℕ) : Type 0 where
   pub from : p / 512 / 512 ≤ g
   pub upto : 512 * g < stop + 512
-  pub next : b ≡ p / 512 + (stop - (stop - 512 * g) - p / 512)
+  pub next : b ≡ p / 512 + (min stop (512 * g) - p / 512)
   pub count : n ≡ zeros (entry_in ws r 0) (g - p / 512 / 512) (p / 512 / 512) + zeros (entry_in ws r 1) (b - p / 512) (p / 512)
 
 module _ (ws : List ℕ) (r p stop : ℕ) (l : p / 512 < stop) where
@@ -69,7 +69,7 @@ module _ (ws : List ℕ) (r p stop : ℕ) (l : p / 512 < stop) where
         omega (arith, c.count, zeros_le (entry_in ws r 0) (g - p / 512 / 512) (p / 512 / 512), zeros_le (entry_in ws r 1) (b - p / 512) (p / 512))
 
     -- the next block lies in group g, and so do those up to e
-    module _ (h : b < stop) (e : ℕ) (here : e ≡ 512 * g + 512 - (512 * g + 512 - stop)) where
+    module _ (h : b < stop) (e : ℕ) (here : e ≡ min (512 * g + 512) stop) where
       pub in_group : (512 * g ≤ b) × (b < e) × (e ≤ 512 * g + 512) × (e ≤ stop)
       in_group = let q = c.from in let k = c.next in (omega arith, omega arith, omega arith, omega arith)
 

@@ -2,7 +2,7 @@
 use mathlib.Core.Path.{◌≡◌, sym, ap, subst, ◌∙◌}
 use mathlib.Core.Logic.{by_cases}
 use mathlib.Core.List.{List}
-use Prim.Native.Nat.{ℕ, ◌+◌, ◌-◌, ◌*◌, ◌/◌, ◌%◌, ◌^◌, ◌≤◌, ◌<◌}
+use Prim.Native.Nat.{ℕ, ◌+◌, ◌-◌, ◌*◌, ◌/◌, ◌%◌, ◌^◌, ◌≤◌, ◌<◌, min}
 use native.Mathlib.Decide.{dec_le}
 use native.Mathlib.Omega.{arith}
 use lib.Bits.{bit_and}
@@ -32,7 +32,7 @@ over_there g h a b m n agree x =
     record { adds = omega (arith, x.adds, e, sum_split g a m, sum_split h b m); few = omega (arith, x.few) }
 
 -- a part cut off where all that follows is 0
-over_cut : (g : ℕ → ℕ) (len f x a b n : ℕ) → ((k : ℕ) → len ≤ k → g k ≡ 0) → f ≤ x → a ≡ f - (f - len) → b ≡ x - (x - len) → Over g a b n → Over g f x n
+over_cut : (g : ℕ → ℕ) (len f x a b n : ℕ) → ((k : ℕ) → len ≤ k → g k ≡ 0) → f ≤ x → a ≡ min f len → b ≡ min x len → Over g a b n → Over g f x n
 over_cut g len f x a b n past l from upto c = by_cases (dec_le len f) outside inside
   where
     outside : len ≤ f → Over g f x n
@@ -64,7 +64,7 @@ page_slot e first i f h big is =
 
 -- their words are those from number f on
 pub block_words : (ws : List ℕ) (e first end f a b mask v n : ℕ) → 0 < v → first ≤ end → end ≤ 512 * (first / 512) + 512 → 0x4000_0000 ≤ e
-    → f ≡ 512 * (e / 1024 - 0x10_0000) + first % 512 → a ≡ f - (f - length ws) → b ≡ f + (end - first) - (f + (end - first) - length ws)
+    → f ≡ 512 * (e / 1024 - 0x10_0000) + first % 512 → a ≡ min f (length ws) → b ≡ min (f + (end - first)) (length ws)
     → Over (alike mask v (word ws)) a b n → Over (alike mask v (entry_under ws e)) first end n
 block_words ws e first end f a b mask v n hv l h big is from upto c =
     let z : first + (end - first) ≡ end = omega arith in
@@ -111,7 +111,7 @@ pub run_one : (ws : List ℕ) (m r : ℕ) → Run ws m r → 0 < slot_word ws m 
 run_one ws m r c h = by_cases (dec_le r 1) (λ q. omega (arith, c.some)) (λ q. absurd (omega (arith, c.empty (omega arith) m (omega arith) (omega arith))))
 
 -- where a scan goes on behind r blocks from page p on, or at the end
-pub next_block : (p end r n : ℕ) → p < end → 1 ≤ r → n ≡ 512 * (p / 512 + r) - (512 * (p / 512 + r) - end) → (p ≤ n) × (n ≤ end) × (n ≤ 512 * (p / 512 + r))
+pub next_block : (p end r n : ℕ) → p < end → 1 ≤ r → n ≡ min (512 * (p / 512 + r)) end → (p ≤ n) × (n ≤ end) × (n ≤ 512 * (p / 512 + r))
 next_block p end r n h l e = (omega arith, omega arith, omega arith)
 
 -- what is counted up to there fits

@@ -34,13 +34,6 @@ fn group_missing(words: &[u64], root: usize, group: usize, first: usize, end: us
     blocks_missing(words, top, first, end)
 }
 
-// The lesser of two numbers.
-pub fn lesser(a: usize, b: usize) -> usize
-    ensures { result ≡ a - (a - b) }
-{
-    if b < a { b } else { a }
-}
-
 // The tables that the pages from first up to end lack.
 pub fn missing_tables(words: &[u64], root: usize, first: usize, end: usize) -> usize
     requires { (root < 512) × (first ≤ end) × (end ≤ 2 ^ 26) }
@@ -54,7 +47,7 @@ pub fn missing_tables(words: &[u64], root: usize, first: usize, end: usize) -> u
     let mut group = first / 512 / 512;
     let mut block = first / 512;
     while block < stop {
-        let next = lesser(512 * group + 512, stop);
+        let next = (512 * group + 512).min(stop);
         n += group_missing(words, root, group, block, next);
         group += 1;
         block = next;

@@ -6,7 +6,6 @@ ghost use Rattle.well_formed.specs.Scan.{Over};
 ghost use Rattle.walk.specs.Missing.{entry_under};
 ghost use Rattle.walk.specs.Ranges.{alike, PagesAlike, page_under};
 
-use super::missing::lesser;
 use super::runs::run_of;
 use super::steps::{slot_in, slot_word};
 
@@ -50,8 +49,8 @@ fn count_block(words: &[u64], e: u64, first: usize, end: usize, mask: u64, v: u6
         return 0;
     }
     let from = 512 * ((e / 1024) as usize - 0x10_0000) + first % 512;
-    let a = lesser(from, words.len());
-    let b = lesser(from + (end - first), words.len());
+    let a = from.min(words.len());
+    let b = (from + (end - first)).min(words.len());
     count_bits(words, a, b, mask, v)
 }
 
@@ -67,7 +66,7 @@ fn count_group(words: &[u64], top: u64, first: usize, end: usize, mask: u64, v: 
     let mut page = first;
     while page < end {
         let m = slot_in(top, page / 512 % 512);
-        let next = lesser(512 * (page / 512 + run_of(words, m)), end);
+        let next = (512 * (page / 512 + run_of(words, m))).min(end);
         let e = slot_word(words, m);
         n += count_block(words, e, page, next, mask, v);
         page = next;
@@ -84,7 +83,7 @@ pub fn count_pages(words: &[u64], root: usize, first: usize, end: usize, mask: u
     let mut page = first;
     while page < end {
         let m = 512 * root + page / 512 / 512 + 2;
-        let next = lesser(262144 * (page / 512 / 512 + run_of(words, m)), end);
+        let next = (262144 * (page / 512 / 512 + run_of(words, m))).min(end);
         let top = slot_word(words, m);
         n += count_group(words, top, page, next, mask, v);
         page = next;

@@ -14,7 +14,7 @@ pub overflow_add-n : goal.overflow_add-n
 overflow_add-n c =
     record {
       fits = counted_few _ _ _ _ (omega arith) _ _ _
-          (counted_more _ _ _ _ (omega arith) _ _ _ c.loop-block.invariant c.loop-block-test.true _ c.lesser-next.ensures _ c.group_missing-n.ensures)
+          (counted_more _ _ _ _ (omega arith) _ _ _ c.loop-block.invariant c.loop-block-test.true _ c.min-next.ensures _ c.group_missing-n.ensures)
           (omega arith);
     }
 
@@ -22,13 +22,13 @@ pub loop-block-smaller : goal.loop-block-smaller
 loop-block-smaller c =
     let i = c.loop-block.invariant in
     let t = c.loop-block-test.true in
-    omega (arith, in_group _ _ _ _ (omega arith) _ _ _ i t _ c.lesser-next.ensures)
+    omega (arith, in_group _ _ _ _ (omega arith) _ _ _ i t _ c.min-next.ensures)
 
 pub loop-block-preserved : goal.loop-block-preserved
 loop-block-preserved c =
     let i = c.loop-block.invariant in
     let t = c.loop-block-test.true in
-    counted_more _ _ _ _ (omega arith) _ _ _ i t _ c.lesser-next.ensures _ c.group_missing-n.ensures
+    counted_more _ _ _ _ (omega arith) _ _ _ i t _ c.min-next.ensures _ c.group_missing-n.ensures
 
 pub returns : goal.returns
 returns c = counted_all _ _ _ _ _ _ _ c.if-end-first.false c.loop-block-test.false c.loop-block.invariant

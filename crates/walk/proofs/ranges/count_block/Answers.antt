@@ -16,5 +16,5 @@ pub returns : goal.returns
 returns c =
     let a = c.args in
     let p = c.requires in
-    block_words a.words.now a.e a.first a.end _ _ _ a.mask a.v _ p.2 p.0 (p.1 c.if-e-lt1073741824.false) c.if-e-lt1073741824.false refl c.lesser-a.ensures c.lesser-b.ensures
+    block_words a.words.now a.e a.first a.end _ _ _ a.mask a.v _ p.2 p.0 (p.1 c.if-e-lt1073741824.false) c.if-e-lt1073741824.false refl c.min-a.ensures c.min-b.ensures
     c.count_bits.ensures
