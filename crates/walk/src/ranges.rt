@@ -1,7 +1,6 @@
 // How many pages of a range have a level-0 word with certain bits: a missing group or block is stepped over whole, and the words
 // of a table are counted as one part.
-ghost use Rattle.std.specs.Prelude.{◌+◌, ◌*◌, ◌/◌, ◌^◌, ◌<◌, ◌≤◌, length};
-ghost use Rattle.store.specs.Store.{word};
+ghost use Rattle.std.specs.Prelude.{◌≡◌, ◌==◌, ◌+◌, ◌*◌, ◌/◌, ◌^◌, ◌<◌, ◌≤◌, bit_and, count_by};
 ghost use Rattle.well_formed.specs.Scan.{Over};
 ghost use Rattle.walk.specs.Missing.{entry_under};
 ghost use Rattle.walk.specs.Ranges.{alike, PagesAlike, page_under};
@@ -9,35 +8,14 @@ ghost use Rattle.walk.specs.Ranges.{alike, PagesAlike, page_under};
 use super::runs::run_of;
 use super::steps::{slot_in, slot_word};
 
-// How many words from a up to e have the bits v under the mask.
-fn count_part(words: &[u64], a: usize, e: usize, mask: u64, v: u64) -> usize
-    requires { (a ≤ e) × (e ≤ length words.now) }
-    ensures { Over (alike mask v (word words.now)) a e result }
+// How many words have the bits v under the mask; for bit 0 alone the numbers are written out, for a shorter loop.
+fn count_bits(words: &[u64], mask: u64, v: u64) -> usize
+    ensures { result ≡ count_by (λ x. bit_and x mask == v) words.now }
 {
-    let mut n: usize = 0;
-    let mut i = a;
-    while i < e {
-        let x = words[i] & mask;
-        i += 1;
-        if x == v {
-            n += 1;
-        }
+    if mask == 1 && v == 1 {
+        return words.iter().map(|x| (*x & 1 == 1) as usize).sum();
     }
-    n
-}
-
-// The same; for bit 0 alone the numbers are written out, for a shorter loop.
-fn count_bits(words: &[u64], a: usize, e: usize, mask: u64, v: u64) -> usize
-    requires { (a ≤ e) × (e ≤ length words.now) }
-    ensures { Over (alike mask v (word words.now)) a e result }
-{
-    if mask != 1 {
-        return count_part(words, a, e, mask, v);
-    }
-    if v != 1 {
-        return count_part(words, a, e, mask, v);
-    }
-    count_part(words, a, e, 1, 1)
+    words.iter().map(|x| (*x & mask == v) as usize).sum()
 }
 
 // How many pages from first up to end of one block do, where e is its entry; of several blocks, where it is 0.
@@ -51,7 +29,7 @@ fn count_block(words: &[u64], e: u64, first: usize, end: usize, mask: u64, v: u6
     let from = 512 * ((e / 1024) as usize - 0x10_0000) + first % 512;
     let a = from.min(words.len());
     let b = (from + (end - first)).min(words.len());
-    count_bits(words, a, b, mask, v)
+    count_bits(&words[a..b], mask, v)
 }
 
 // How many pages from first up to end of one group do, where top is the root's entry of it.

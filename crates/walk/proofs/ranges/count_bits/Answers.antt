@@ -1,11 +1,18 @@
--- `walk::ranges::count_bits` meets its contract. Assumes nothing.
+-- x
+use Prim.Native.Nat.{◌^◌, ◌≤◌}
+use lib.ListN.{length}
+use native.Mathlib.Omega.{arith}
+use Rattle.std.proofs.Common.{rules}
+use Rattle.std.proofs.lemmas.Iterator.Adapters.{fits_from_length, at_most_from_yields_List}
+use Rattle.std.proofs.lemmas.Iterator.{YieldsList-from_slice}
 use Rattle.walk.proofs.ranges.count_bits.Goals as goal
 
-pub returns-then-mask-ne1 : goal.returns-then-mask-ne1
-returns-then-mask-ne1 c = c.count_part.ensures
+pub sum-requires-clause-fits : goal.sum-requires-clause-fits
+sum-requires-clause-fits c =
+    let few : length c.args.words.now ≤ 2 ^ 62 = search rules in
+    fits_from_length _ _ (2 ^ 62) (2 ^ 64) (at_most_from_yields_List (YieldsList-from_slice c.args.words.now cc) few) c.map.ensures.closure (omega arith) (λ x r q k. search rules)
 
-pub returns-then-v-ne1 : goal.returns-then-v-ne1
-returns-then-v-ne1 c = c.count_part-then-v-ne1.ensures
-
-pub returns : goal.returns
-returns c = rw (c.if-v-ne1.false, c.if-mask-ne1.false) c.count_part-2.ensures
+pub sum-requires-2-clause-fits : goal.sum-requires-2-clause-fits
+sum-requires-2-clause-fits c =
+    let few : length c.args.words.now ≤ 2 ^ 62 = search rules in
+    fits_from_length _ _ (2 ^ 62) (2 ^ 64) (at_most_from_yields_List (YieldsList-from_slice c.args.words.now cc) few) c.map-2.ensures.closure (omega arith) (λ x r q k. search rules)
