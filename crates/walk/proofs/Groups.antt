@@ -60,16 +60,15 @@ module _ (ws : List ℕ) (r p stop : ℕ) where
       rw e (omega (arith, part_none (entry_in ws r 0) (p / 512 / 512), part_none (entry_in ws r 1) (p / 512)))
 
   -- the blocks from b up to e are those of group g
-  module _ (g b e : ℕ) (l : p / 512 / 512 ≤ g) (h : 512 * g < stop) (some : p / 512 < stop) (here : b ≡ max (512 * g) (p / 512)) (there : e ≡ min (512 * g + 512) stop) where
+  module _ (g b e : ℕ) (l : p / 512 / 512 ≤ g) (h : 512 * g < stop) (some : p / 512 < stop) (here : b ≡ block_from p stop g) (there : e ≡ min (512 * g + 512) stop) where
     module _ (n m : ℕ) (c : Counted ws r p stop g n) (k : m ≡ is_zero (entry_in ws r 0 g) + zeros (entry_in ws r 1) (e - b) b) where
       pub counted_more : Counted ws r p stop (g + 1) (n + m)
       counted_more =
-          let x : block_from p stop g ≡ b = omega arith in
           let y : block_from p stop (g + 1) ≡ e = omega arith in
           rw y (
           omega (
             arith,
-            rw x at c,
+            rw (sym here) at c,
             part_next (entry_in ws r 0) (p / 512 / 512) g l,
             part_join (entry_in ws r 1) (p / 512) b e (omega arith) (omega arith),
           )

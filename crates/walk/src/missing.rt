@@ -43,10 +43,11 @@ pub fn missing_tables(words: &[u64], root: usize, first: usize, end: usize) -> u
     }
     let stop = (end - 1) / 512 + 1;
     let mut n: usize = 0;
+    let mut block = first / 512;
     for group in first / 512 / 512..(end - 1) / 512 / 512 + 1 {
-        let block = (512 * group).max(first / 512);
         let next = (512 * group + 512).min(stop);
         n += group_missing(words, root, group, block, next);
+        block = next;
     }
     n
 }
