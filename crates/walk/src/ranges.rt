@@ -8,14 +8,27 @@ ghost use Rattle.walk.specs.Ranges.{alike, PagesAlike, page_under};
 use super::runs::run_of;
 use super::steps::{slot_in, slot_word};
 
-// How many words have the bits v under the mask; for bit 0 alone the numbers are written out, for a shorter loop.
+// How many words have the bits v under the mask.
+fn count_part(words: &[u64], mask: u64, v: u64) -> usize
+    ensures { result ≡ count_by (λ x. bit_and x mask == v) words.now }
+{
+    let mut n: usize = 0;
+    for x in words {
+        if *x & mask == v {
+            n += 1;
+        }
+    }
+    n
+}
+
+// The same; for bit 0 alone the numbers are written out, for a shorter loop.
 fn count_bits(words: &[u64], mask: u64, v: u64) -> usize
     ensures { result ≡ count_by (λ x. bit_and x mask == v) words.now }
 {
     if mask == 1 && v == 1 {
-        return words.iter().map(|x| (*x & 1 == 1) as usize).sum();
+        return count_part(words, 1, 1);
     }
-    words.iter().map(|x| (*x & mask == v) as usize).sum()
+    count_part(words, mask, v)
 }
 
 // How many pages from first up to end of one block do, where e is its entry; of several blocks, where it is 0.
