@@ -1,5 +1,4 @@
 -- `enter::enter::put_run` meets its contract. The invariant: the slots before i are written, and writing the rest gives the whole. Assumes nothing.
-use native.Mathlib.Omega.{arith}
 use Rattle.enter.proofs.PutRun.{run_start, run_next, run_done}
 use Rattle.enter.proofs.enter.put_run.Goals as goal
 

@@ -1,7 +1,4 @@
 -- The invariants of the loops.
-use mathlib.Core.Path.{◌≡◌}
-use Prim.Native.Nat.{◌-◌, ◌≤◌}
-use lib.ListN.{length}
 use Rattle.enter.proofs.PutRun.{Putting}
 use Rattle.enter.proofs.enter.put_run.Given as goal
 
