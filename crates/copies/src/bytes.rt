@@ -29,7 +29,7 @@ pub fn read_bytes(
     let mut i = 0;
     while i < dst.len() {
         let a = va + (i as u64);
-        let k = walk::lesser(4096 - (a % 4096) as usize, dst.len() - i);
+        let k = (4096 - (a % 4096) as usize).min(dst.len() - i);
         let from = place(words, root, a);
         store::copy_bytes(&mut dst[i..i + k], &bytes[from..from + k]);
         i += k;
@@ -52,7 +52,7 @@ pub fn write_bytes(
     let mut i = 0;
     while i < src.len() {
         let a = va + (i as u64);
-        let k = walk::lesser(4096 - (a % 4096) as usize, src.len() - i);
+        let k = (4096 - (a % 4096) as usize).min(src.len() - i);
         let to = place(words, root, a);
         store::copy_bytes(&mut bytes[to..to + k], &src[i..i + k]);
         i += k;

@@ -100,7 +100,7 @@ fn measure(
                 met: false,
             };
         }
-        let k = walk::lesser(4096 - (a % 4096) as usize, max - i);
+        let k = (4096 - (a % 4096) as usize).min(max - i);
         let from = copies::place(words, root, a);
         let z = first_zero(&bytes[from..from + k]);
         if z < k {

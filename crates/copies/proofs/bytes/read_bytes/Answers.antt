@@ -38,7 +38,7 @@ overflow_add-from c =
     let l = c.loop-i in
     let q : l.i < length a.dst.now = omega arith in
     let p = c.requires.pages l.i (inl q) in
-    omega (arith, c.place-from.ensures a.tmarks.now a.bytes.now a.fmarks.now, page_room (store_of a.words.now a.tmarks.now a.bytes.now a.fmarks.now) a.root c.requires.at_root.sized (a.va + l.i) _ p (turn (a.va + l.i) _ _ c.lesser-k.ensures))
+    omega (arith, c.place-from.ensures a.tmarks.now a.bytes.now a.fmarks.now, page_room (store_of a.words.now a.tmarks.now a.bytes.now a.fmarks.now) a.root c.requires.at_root.sized (a.va + l.i) _ p (turn (a.va + l.i) _ _ c.min-k.ensures))
 
 pub slice_bounds-copy_bytes-end-in-loop-i : goal.slice_bounds-copy_bytes-end-in-loop-i
 slice_bounds-copy_bytes-end-in-loop-i c =
@@ -46,7 +46,7 @@ slice_bounds-copy_bytes-end-in-loop-i c =
     let l = c.loop-i in
     let q : l.i < length a.dst.now = omega arith in
     let p = c.requires.pages l.i (inl q) in
-    omega (arith, c.place-from.ensures a.tmarks.now a.bytes.now a.fmarks.now, page_room (store_of a.words.now a.tmarks.now a.bytes.now a.fmarks.now) a.root c.requires.at_root.sized (a.va + l.i) _ p (turn (a.va + l.i) _ _ c.lesser-k.ensures))
+    omega (arith, c.place-from.ensures a.tmarks.now a.bytes.now a.fmarks.now, page_room (store_of a.words.now a.tmarks.now a.bytes.now a.fmarks.now) a.root c.requires.at_root.sized (a.va + l.i) _ p (turn (a.va + l.i) _ _ c.min-k.ensures))
 
 pub copy_bytes-requires : goal.copy_bytes-requires
 copy_bytes-requires c =
@@ -54,13 +54,13 @@ copy_bytes-requires c =
     let l = c.loop-i in
     let q : l.i < length a.dst.now = omega arith in
     let p = c.requires.pages l.i (inl q) in
-    part_length l.dst l.i _ (omega (arith, c.lesser-k.ensures)) ∙ sym (part_length a.bytes.now _ _ (omega (arith, c.place-from.ensures a.tmarks.now a.bytes.now a.fmarks.now, page_room (store_of a.words.now a.tmarks.now a.bytes.now a.fmarks.now) a.root c.requires.at_root.sized (a.va + l.i) _ p (turn (a.va + l.i) _ _ c.lesser-k.ensures))))
+    part_length l.dst l.i _ (omega (arith, c.min-k.ensures)) ∙ sym (part_length a.bytes.now _ _ (omega (arith, c.place-from.ensures a.tmarks.now a.bytes.now a.fmarks.now, page_room (store_of a.words.now a.tmarks.now a.bytes.now a.fmarks.now) a.root c.requires.at_root.sized (a.va + l.i) _ p (turn (a.va + l.i) _ _ c.min-k.ensures))))
 
 pub loop-i-smaller : goal.loop-i-smaller
 loop-i-smaller c =
     let a = c.args in
     let l = c.loop-i in
-    turn_less (a.va + l.i) _ _ l.i _ l.invariant.1 c.loop-i-test.true c.lesser-k.ensures
+    turn_less (a.va + l.i) _ _ l.i _ l.invariant.1 c.loop-i-test.true c.min-k.ensures
 
 pub loop-i-preserved : goal.loop-i-preserved
 loop-i-preserved c =
@@ -70,7 +70,7 @@ loop-i-preserved c =
     let p = c.requires.pages l.i (inl q) in (
       omega arith,
       search rules,
-      read_more (store_of a.words.now a.tmarks.now a.bytes.now a.fmarks.now) a.root a.va a.dst.now l.dst l.i l.invariant.2 _ _ (c.place-from.ensures a.tmarks.now a.bytes.now a.fmarks.now) (turn (a.va + l.i) _ _ c.lesser-k.ensures) (omega (arith, c.place-from.ensures a.tmarks.now a.bytes.now a.fmarks.now, page_room (store_of a.words.now a.tmarks.now a.bytes.now a.fmarks.now) a.root c.requires.at_root.sized (a.va + l.i) _ p (turn (a.va + l.i) _ _ c.lesser-k.ensures))) _ c.copy_bytes.ensures,
+      read_more (store_of a.words.now a.tmarks.now a.bytes.now a.fmarks.now) a.root a.va a.dst.now l.dst l.i l.invariant.2 _ _ (c.place-from.ensures a.tmarks.now a.bytes.now a.fmarks.now) (turn (a.va + l.i) _ _ c.min-k.ensures) (omega (arith, c.place-from.ensures a.tmarks.now a.bytes.now a.fmarks.now, page_room (store_of a.words.now a.tmarks.now a.bytes.now a.fmarks.now) a.root c.requires.at_root.sized (a.va + l.i) _ p (turn (a.va + l.i) _ _ c.min-k.ensures))) _ c.copy_bytes.ensures,
     )
 
 pub returns : goal.returns

@@ -41,7 +41,7 @@ pub overflow_add-from : goal.overflow_add-from
 overflow_add-from c =
     let a = c.args in
     let l = c.loop-root in
-    omega (arith, room (store_of a.words.now a.tmarks.now a.bytes.now a.fmarks.now) a.root a.va a.max c.requires l.i l.invariant (c.judge_page-no.ensures.ready c.if-no-ne0.false) _ _ c.lesser-k.ensures (c.place-from.ensures _ _ _))
+    omega (arith, room (store_of a.words.now a.tmarks.now a.bytes.now a.fmarks.now) a.root a.va a.max c.requires l.i l.invariant (c.judge_page-no.ensures.ready c.if-no-ne0.false) _ _ c.min-k.ensures (c.place-from.ensures _ _ _))
 
 pub slice_bounds-first_zero-count : goal.slice_bounds-first_zero-count
 slice_bounds-first_zero-count c =
@@ -59,40 +59,40 @@ pub slice_bounds-first_zero-end : goal.slice_bounds-first_zero-end
 slice_bounds-first_zero-end c =
     let a = c.args in
     let l = c.loop-root in
-    omega (arith, room (store_of a.words.now a.tmarks.now a.bytes.now a.fmarks.now) a.root a.va a.max c.requires l.i l.invariant (c.judge_page-no.ensures.ready c.if-no-ne0.false) _ _ c.lesser-k.ensures (c.place-from.ensures _ _ _))
+    omega (arith, room (store_of a.words.now a.tmarks.now a.bytes.now a.fmarks.now) a.root a.va a.max c.requires l.i l.invariant (c.judge_page-no.ensures.ready c.if-no-ne0.false) _ _ c.min-k.ensures (c.place-from.ensures _ _ _))
 
 pub overflow_add-result : goal.overflow_add-result
 overflow_add-result c =
     let a = c.args in
     let l = c.loop-root in
-    omega (arith, c.lesser-k.ensures, upto (store_of a.words.now a.tmarks.now a.bytes.now a.fmarks.now) a.root a.va a.max l.i l.invariant)
+    omega (arith, c.min-k.ensures, upto (store_of a.words.now a.tmarks.now a.bytes.now a.fmarks.now) a.root a.va a.max l.i l.invariant)
 
 pub returns-then-z-k : goal.returns-then-z-k
 returns-then-z-k c =
     let a = c.args in
     let l = c.loop-root in
-    met (store_of a.words.now a.tmarks.now a.bytes.now a.fmarks.now) a.root a.va a.max c.requires l.i l.invariant (c.judge_page-no.ensures.ready c.if-no-ne0.false) _ _ c.lesser-k.ensures (c.place-from.ensures _ _ _) _ c.first_zero-z.ensures c.if-z-k.true
+    met (store_of a.words.now a.tmarks.now a.bytes.now a.fmarks.now) a.root a.va a.max c.requires l.i l.invariant (c.judge_page-no.ensures.ready c.if-no-ne0.false) _ _ c.min-k.ensures (c.place-from.ensures _ _ _) _ c.first_zero-z.ensures c.if-z-k.true
 
 pub overflow_add-i : goal.overflow_add-i
 overflow_add-i c =
     let a = c.args in
     let l = c.loop-root in
-    omega (arith, c.lesser-k.ensures, upto (store_of a.words.now a.tmarks.now a.bytes.now a.fmarks.now) a.root a.va a.max l.i l.invariant)
+    omega (arith, c.min-k.ensures, upto (store_of a.words.now a.tmarks.now a.bytes.now a.fmarks.now) a.root a.va a.max l.i l.invariant)
 
 pub returns-then-i-max : goal.returns-then-i-max
 returns-then-i-max c =
     let a = c.args in
     let l = c.loop-root in
-    whole (store_of a.words.now a.tmarks.now a.bytes.now a.fmarks.now) a.root a.va a.max c.requires l.i l.invariant (c.judge_page-no.ensures.ready c.if-no-ne0.false) _ _ c.lesser-k.ensures (c.place-from.ensures _ _ _) _ c.first_zero-z.ensures c.if-z-k.false c.if-i-max.true
+    whole (store_of a.words.now a.tmarks.now a.bytes.now a.fmarks.now) a.root a.va a.max c.requires l.i l.invariant (c.judge_page-no.ensures.ready c.if-no-ne0.false) _ _ c.min-k.ensures (c.place-from.ensures _ _ _) _ c.first_zero-z.ensures c.if-z-k.false c.if-i-max.true
 
 pub loop-root-smaller : goal.loop-root-smaller
 loop-root-smaller c =
     let a = c.args in
     let l = c.loop-root in
-    omega (arith, c.lesser-k.ensures, upto (store_of a.words.now a.tmarks.now a.bytes.now a.fmarks.now) a.root a.va a.max l.i l.invariant)
+    omega (arith, c.min-k.ensures, upto (store_of a.words.now a.tmarks.now a.bytes.now a.fmarks.now) a.root a.va a.max l.i l.invariant)
 
 pub loop-root-preserved : goal.loop-root-preserved
 loop-root-preserved c =
     let a = c.args in
     let l = c.loop-root in
-    again (store_of a.words.now a.tmarks.now a.bytes.now a.fmarks.now) a.root a.va a.max c.requires l.i l.invariant (c.judge_page-no.ensures.ready c.if-no-ne0.false) _ _ c.lesser-k.ensures (c.place-from.ensures _ _ _) _ c.first_zero-z.ensures c.if-z-k.false c.if-i-max.false
+    again (store_of a.words.now a.tmarks.now a.bytes.now a.fmarks.now) a.root a.va a.max c.requires l.i l.invariant (c.judge_page-no.ensures.ready c.if-no-ne0.false) _ _ c.min-k.ensures (c.place-from.ensures _ _ _) _ c.first_zero-z.ensures c.if-z-k.false c.if-i-max.false
