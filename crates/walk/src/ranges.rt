@@ -55,6 +55,7 @@ fn count_group(words: &[u64], top: u64, first: usize, end: usize, mask: u64, v: 
     }
     let mut n: usize = 0;
     let mut page = first;
+    // No `for`: a step is as long as `run_of` answers.
     while page < end {
         let m = slot_in(top, page / 512 % 512);
         let next = (512 * (page / 512 + run_of(words, m))).min(end);
@@ -72,6 +73,7 @@ pub fn count_pages(words: &[u64], root: usize, first: usize, end: usize, mask: u
 {
     let mut n: usize = 0;
     let mut page = first;
+    // No `for`: a step is as long as `run_of` answers.
     while page < end {
         let m = 512 * root + page / 512 / 512 + 2;
         let next = (262144 * (page / 512 / 512 + run_of(words, m))).min(end);
