@@ -1,7 +1,7 @@
 -- A turn of the loops that read and write bytes, a page's part at a time. Assumes nothing.
 use mathlib.Core.Path.{◌≡◌, refl, sym, ap, ap₂, ◌∙◌}
 use mathlib.Core.List.{List, ◌++◌, append_assoc, append-nil}
-use Prim.Native.Nat.{ℕ, ◌+◌, ◌-◌, ◌%◌, ◌≤◌, ◌<◌}
+use Prim.Native.Nat.{ℕ, ◌+◌, ◌-◌, ◌%◌, ◌≤◌, ◌<◌, min}
 use native.Mathlib.Omega.{arith}
 use lib.ListN.{length, take, drop, length-drop, take-append-drop}
 use lib.Seq.{length-take-le, take_at, drop_at, drop-length, drop-drop, sets, sets-eq}
@@ -12,11 +12,11 @@ use Rattle.copies.proofs.BytesLaws.{bytes_length, bytes_add, bytes_page, written
 
 -- ---- the part of a page that a turn reads or writes: k of the n bytes that are left, from address a on
 
-pub turn : (a n k : ℕ) → k ≡ 4096 - a % 4096 - (4096 - a % 4096 - n) → a % 4096 + k ≤ 4096
+pub turn : (a n k : ℕ) → k ≡ min (4096 - a % 4096) n → a % 4096 + k ≤ 4096
 turn a n k e = omega arith
 
 -- fewer are left after it, where i of m were done before
-pub turn_less : (a n m i k : ℕ) → n ≡ m → i < n → k ≡ 4096 - a % 4096 - (4096 - a % 4096 - (n - i)) → m - (i + k) < m - i
+pub turn_less : (a n m i k : ℕ) → n ≡ m → i < n → k ≡ min (4096 - a % 4096) (n - i) → m - (i + k) < m - i
 turn_less a n m i k e l h =
     let p : 0 < n - i = omega arith in
     let q : 0 < k = omega (arith, p, h) in

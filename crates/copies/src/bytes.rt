@@ -23,7 +23,7 @@ pub fn read_bytes(store: &Store, root: usize, va: u64, dst: &mut [u8])
     let mut i = 0;
     while i < dst.len() {
         let a = va + (i as u64);
-        let k = walk::lesser(4096 - (a % 4096) as usize, dst.len() - i);
+        let k = (4096 - (a % 4096) as usize).min(dst.len() - i);
         let from = place(store.words, root, a);
         dst[i..i + k].copy_from_slice(&store.bytes[from..from + k]);
         i += k;
@@ -46,7 +46,7 @@ pub fn write_bytes(
     let mut i = 0;
     while i < src.len() {
         let a = va + (i as u64);
-        let k = walk::lesser(4096 - (a % 4096) as usize, src.len() - i);
+        let k = (4096 - (a % 4096) as usize).min(src.len() - i);
         let to = place(words, root, a);
         bytes[to..to + k].copy_from_slice(&src[i..i + k]);
         i += k;

@@ -55,10 +55,8 @@ fn put_run(words: &mut [u64], m: usize, n: usize, e: u64)
     ensures { words.new ≡ put_run words.old m n e }
 {
     let w = m - 2;
-    let mut i = 0;
-    while i < n {
+    for i in 0..n {
         words[w + i] = e + 1024 * (i as u64);
-        i += 1;
     }
 }
 
@@ -88,9 +86,10 @@ pub fn enter_pages(
         ≡ enter_pages (store_of words.old tmarks.old bytes.now fmarks.now) root first n e }
 {
     let mut i = 0;
+    // No `for`: a step takes the pages that are left of a block, and the first and the last block may be cut.
     while i < n {
         let page = first + i;
-        let k = walk::lesser(512 - page % 512, n - i);
+        let k = (512 - page % 512).min(n - i);
         enter_run(words, tmarks, root, page, k, e + 1024 * (i as u64));
         i += k;
     }

@@ -2,7 +2,7 @@
 use mathlib.Core.Path.{◌≡◌, refl, sym, ap, ap₂, subst, ◌∙◌}
 use mathlib.Core.Bool.{Bool, true, false}
 use mathlib.Core.Logic.{◌⊎◌, inl, inr, ⊎_elim, by_cases}
-use Prim.Native.Nat.{ℕ, ◌+◌, ◌-◌, ◌/◌, ◌%◌, ◌^◌, ◌≤◌, ◌<◌}
+use Prim.Native.Nat.{ℕ, ◌+◌, ◌-◌, ◌/◌, ◌%◌, ◌^◌, ◌≤◌, ◌<◌, min}
 use native.Mathlib.Decide.{dec_lt}
 use native.Mathlib.Omega.{arith}
 use borrow.Author.Tests.{lt-ltb, le-ltb}
@@ -88,7 +88,7 @@ module _ (s : Store) (root va max : ℕ) where
 
   -- a turn: the page of byte i can be read, k bytes of it are looked at from the place of byte i on, and z is that of their first zero
   module _ (f : RootReady s root) (i : ℕ) (g : Following s root va max i) (p : PageReady s root (va + i)) where
-    module _ (k from : ℕ) (ek : k ≡ 4096 - (va + i) % 4096 - (4096 - (va + i) % 4096 - (max - i))) (ef : from ≡ place_at s root (va + i)) where
+    module _ (k from : ℕ) (ek : k ≡ min (4096 - (va + i) % 4096) (max - i)) (ef : from ≡ place_at s root (va + i)) where
       one : (va + i) % 4096 + k ≤ 4096
       one = turn (va + i) (max - i) k ek
 

@@ -79,7 +79,7 @@ fn measure(store: &Store, root: usize, va: u64, max: usize) -> Result<StrRead, R
     loop {
         let a = va + (i as u64);
         copies::judge_page(store, root, a)?;
-        let k = walk::lesser(4096 - (a % 4096) as usize, max - i);
+        let k = (4096 - (a % 4096) as usize).min(max - i);
         let from = copies::place(store.words, root, a);
         let z = first_zero(&store.bytes[from..from + k]);
         if z < k {

@@ -54,9 +54,10 @@ pub fn leave_pages(
         ≡ leave_pages (store_of words.old tmarks.now bytes.now fmarks.old) root first n freeing }
 {
     let mut i = 0;
+    // No `for`: a step takes the pages that are left of a block, and the first and the last block may be cut.
     while i < n {
         let page = first + i;
-        let k = walk::lesser(512 - page % 512, n - i);
+        let k = (512 - page % 512).min(n - i);
         let m = walk::slot_of(words, root, page);
         leave_run(words, fmarks, m, k, freeing);
         i += k;

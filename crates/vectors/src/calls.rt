@@ -84,7 +84,7 @@ fn copied_in(
 ) -> Answer {
     let root = rows::argument(row, 0);
     let va = VirtualAddress(rows::argument(row, 1));
-    let n = walk::lesser(rows::argument(row, 2) as usize, lent.len());
+    let n = (rows::argument(row, 2) as usize).min(lent.len());
     let dst = &mut lent[..n];
     if rows::call(row) == 13 {
         return copies::copy_in(words, tmarks, bytes, fmarks, root, va, dst);

@@ -1,7 +1,7 @@
 -- The tables that a range of pages lacks, group by group. Assumes nothing.
 use mathlib.Core.Path.{◌≡◌, refl, sym, ap, ap₂, ◌∙◌}
 use mathlib.Core.List.{List}
-use Prim.Native.Nat.{ℕ, zero, suc, ◌+◌, ◌-◌, ◌*◌, ◌/◌, ◌%◌, ◌^◌, ◌≤◌, ◌<◌}
+use Prim.Native.Nat.{ℕ, zero, suc, ◌+◌, ◌-◌, ◌*◌, ◌/◌, ◌%◌, ◌^◌, ◌≤◌, ◌<◌, min, max}
 use native.Mathlib.Omega.{arith}
 use Rattle.store.specs.Count.{is_zero, zeros}
 use Rattle.store.specs.Walk.{slot_word, slot_in, slot}
@@ -45,47 +45,44 @@ module _ (ws : List ℕ) (r g top : ℕ) (read : top ≡ slot_word ws (512 * r +
 
 -- ---- the groups of a range in turn
 
--- of the pages from p on, those of the groups below g are counted, and b is the next block, the last of all being stop - 1
-pub record Counted (ws : List ℕ) (r p stop g b n : ℕ) : Type 0 where
-  pub from : p / 512 / 512 ≤ g
-  pub upto : 512 * g < stop + 512
-  pub next : b ≡ p / 512 + (stop - (stop - 512 * g) - p / 512)
-  pub count : n ≡ zeros (entry_in ws r 0) (g - p / 512 / 512) (p / 512 / 512) + zeros (entry_in ws r 1) (b - p / 512) (p / 512)
+-- the first block from p on that lies in no group below g, or stop where there is none before it
+abbrev pub block_from : ℕ → ℕ → ℕ → ℕ
+block_from p stop g = max (p / 512) (min stop (512 * g))
 
-module _ (ws : List ℕ) (r p stop : ℕ) (l : p / 512 < stop) where
-  pub counted_none : Counted ws r p stop (p / 512 / 512) (p / 512) 0
-  counted_none = record {
-    from = omega arith;
-    upto = omega arith;
-    next = omega arith;
-    count = omega (arith, part_none (entry_in ws r 0) (p / 512 / 512), part_none (entry_in ws r 1) (p / 512));
-  }
+-- of the pages from p on, up to the block stop - 1, those of the groups below g are counted
+abbrev pub Counted : List ℕ → ℕ → ℕ → ℕ → ℕ → ℕ → Type 0
+Counted ws r p stop g n = n ≡ zeros (entry_in ws r 0) (g - p / 512 / 512) (p / 512 / 512) + zeros (entry_in ws r 1) (block_from p stop g - p / 512) (p / 512)
 
-  module _ (g b n : ℕ) (c : Counted ws r p stop g b n) where
-    pub counted_few : stop ≤ 2 ^ 26 → n < 2 ^ 64
-    counted_few q =
-        let e : g ≤ 2 ^ 26 = omega (arith, c.upto) in
-        let f : b ≤ 2 ^ 26 = omega (arith, c.next) in
-        omega (arith, c.count, zeros_le (entry_in ws r 0) (g - p / 512 / 512) (p / 512 / 512), zeros_le (entry_in ws r 1) (b - p / 512) (p / 512))
+module _ (ws : List ℕ) (r p stop : ℕ) where
+  pub counted_none : p / 512 < stop → Counted ws r p stop (p / 512 / 512) 0
+  counted_none l =
+      let e : block_from p stop (p / 512 / 512) ≡ p / 512 = omega arith in
+      rw e (omega (arith, part_none (entry_in ws r 0) (p / 512 / 512), part_none (entry_in ws r 1) (p / 512)))
 
-    -- the next block lies in group g, and so do those up to e
-    module _ (h : b < stop) (e : ℕ) (here : e ≡ 512 * g + 512 - (512 * g + 512 - stop)) where
-      pub in_group : (512 * g ≤ b) × (b < e) × (e ≤ 512 * g + 512) × (e ≤ stop)
-      in_group = let q = c.from in let k = c.next in (omega arith, omega arith, omega arith, omega arith)
+  -- the blocks from b up to e are those of group g
+  module _ (g b e : ℕ) (l : p / 512 / 512 ≤ g) (h : 512 * g < stop) (some : p / 512 < stop) (here : b ≡ block_from p stop g) (there : e ≡ min (512 * g + 512) stop) where
+    module _ (n m : ℕ) (c : Counted ws r p stop g n) (k : m ≡ is_zero (entry_in ws r 0 g) + zeros (entry_in ws r 1) (e - b) b) where
+      pub counted_more : Counted ws r p stop (g + 1) (n + m)
+      counted_more =
+          let y : block_from p stop (g + 1) ≡ e = omega arith in
+          rw y (
+          omega (
+            arith,
+            rw (sym here) at c,
+            part_next (entry_in ws r 0) (p / 512 / 512) g l,
+            part_join (entry_in ws r 1) (p / 512) b e (omega arith) (omega arith),
+          )
+          )
 
-      pub counted_more : (m : ℕ) → m ≡ is_zero (entry_in ws r 0 g) + zeros (entry_in ws r 1) (e - b) b → Counted ws r p stop (g + 1) e (n + m)
-      counted_more m k = record {
-        from = omega (arith, c.from);
-        upto = omega (arith, in_group);
-        next = omega (arith, c.from);
-        count =
-            omega (
-              arith,
-              c.count,
-              part_next (entry_in ws r 0) (p / 512 / 512) g c.from,
-              part_join (entry_in ws r 1) (p / 512) b e (omega (arith, c.next)) (omega (arith, in_group)),
-            );
-      }
+      pub counted_few : stop ≤ 2 ^ 26 → n + m < 2 ^ 64
+      counted_few q =
+          let y : block_from p stop (g + 1) ≡ e = omega arith in
+          omega (
+            arith,
+            rw y at counted_more,
+            zeros_le (entry_in ws r 0) (g + 1 - p / 512 / 512) (p / 512 / 512),
+            zeros_le (entry_in ws r 1) (e - p / 512) (p / 512),
+          )
 
 -- the count over a range that is not empty, by the ends of its groups and blocks
 pub missing_parts : (ws : List ℕ) (r p e g b : ℕ) → p < e → g ≡ (e - 1) / 512 / 512 + 1 → b ≡ (e - 1) / 512 + 1
@@ -98,12 +95,11 @@ missing_parts ws r p e g b l h k =
     ap (missing_in ws r p) m
     ∙ ap₂ (λ (x y : ℕ). zeros (entry_in ws r 0) (x - p / 512 / 512) (p / 512 / 512) + zeros (entry_in ws r 1) (y - p / 512) (p / 512)) u v
 
--- all are counted where no block is left
-pub counted_all : (ws : List ℕ) (r p e g b n : ℕ) → p < e → (e - 1) / 512 + 1 ≤ b → Counted ws r p ((e - 1) / 512 + 1) g b n → n ≡ missing_in ws r p (e - p)
-counted_all ws r p e g b n l h c =
-    let q = c.next in
-    let u = c.upto in
-    c.count ∙ sym (missing_parts ws r p e g b l (omega arith) (omega arith))
+-- all are counted where no group is left
+pub counted_all : (ws : List ℕ) (r p e g n : ℕ) → p < e → g ≡ (e - 1) / 512 / 512 + 1 → Counted ws r p ((e - 1) / 512 + 1) g n → n ≡ missing_in ws r p (e - p)
+counted_all ws r p e g n l h c =
+    let b : block_from p ((e - 1) / 512 + 1) g ≡ (e - 1) / 512 + 1 = omega arith in
+    rw b at c ∙ sym (missing_parts ws r p e g ((e - 1) / 512 + 1) l h (omega arith))
 
 pub missing_empty : (ws : List ℕ) (r p e : ℕ) → e ≤ p → missing_in ws r p (e - p) ≡ 0
 unfolding missing_in

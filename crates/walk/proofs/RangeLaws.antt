@@ -2,13 +2,19 @@
 use mathlib.Core.Path.{◌≡◌, sym, ap, subst, ◌∙◌}
 use mathlib.Core.Logic.{by_cases}
 use mathlib.Core.List.{List}
-use Prim.Native.Nat.{ℕ, ◌+◌, ◌-◌, ◌*◌, ◌/◌, ◌%◌, ◌^◌, ◌≤◌, ◌<◌}
+use Prim.Native.Nat.{ℕ, zero, suc, ◌+◌, ◌-◌, ◌*◌, ◌/◌, ◌%◌, ◌^◌, ◌≤◌, ◌<◌, min}
 use native.Mathlib.Decide.{dec_le}
 use native.Mathlib.Omega.{arith}
 use lib.Bits.{bit_and}
-use lib.ListN.{length, get_or-eq_default}
+use lib.ListN.{length, take, drop, get_or-eq_default}
+use Rattle.std.specs.Prelude.{◌==◌}
+use Rattle.std.specs.List.{slice_range, count_by}
+use Rattle.std.proofs.lemmas.List.{get_or-drop}
+use Rattle.std.proofs.lemmas.List.Sums.{sum_by_more, count_by-le-length}
+use Rattle.std.proofs.Common.{add-suc, add-zero, add-one, length-drop}
+use Rattle.std.proofs.lemmas.List.{length-take-le}
 use Rattle.store.specs.Store.{word}
-use Rattle.store.specs.Sum.{same}
+use Rattle.store.specs.Sum.{sum, same}
 use Rattle.store.specs.Walk.{slot_word, slot_in, slot}
 use Rattle.store.proofs.Sums.{same_no, sum_split, sum_cong}
 use Rattle.store.proofs.Tree.{word_slot}
@@ -25,6 +31,26 @@ use Rattle.walk.proofs.Groups.{slot_none, under_none}
 pub none_alike : (mask v x : ℕ) → 0 < v → x ≡ 0 → same (bit_and x mask) v ≡ 0
 none_alike mask v x h z = same_no (bit_and x mask) v (λ e. omega (arith, ap (λ (y : ℕ). bit_and y mask) z))
 
+-- the first k words from number a on, as a list and as a sum
+module _ (mask v : ℕ) (ws : List ℕ) (a : ℕ) where
+  abbrev count : List ℕ → ℕ
+  count l = count_by (λ x. bit_and x mask == v) l
+
+  more : (k : ℕ) → a + k < length ws → count (take (suc k) (drop a ws)) ≡ count (take k (drop a ws)) + alike mask v (word ws) (a + k)
+  unfolding same
+  more k l = rw (add-one k, get_or-drop a ws k 0) at (sum_by_more {X = ℕ} (λ x. same (bit_and x mask) v) (drop a ws) k 0 (omega (arith, length-drop a ws)))
+
+  listed : (k : ℕ) → a + k ≤ length ws → sum (alike mask v (word ws)) a + count (take k (drop a ws)) ≡ sum (alike mask v (word ws)) (a + k)
+  unfolding sum
+  listed zero l = rw (add-zero a) (omega arith)
+  listed (suc k) l = rw add-suc (omega (arith, listed k (omega arith), more k (omega arith)))
+
+  pub listed_part : (e : ℕ) → a ≤ e → e ≤ length ws → Over (alike mask v (word ws)) a e (count (slice_range ws a e))
+  listed_part e l h = let z : a + (e - a) ≡ e = omega arith in record {
+    adds = rw z at (listed (e - a) (omega arith));
+    few = omega (arith, count_by-le-length (λ x. bit_and x mask == v) (slice_range ws a e), length-take-le (e - a) (drop a ws) (omega (arith, length-drop a ws)));
+  }
+
 -- functions that agree from a on and from b on
 over_there : (g h : ℕ → ℕ) (a b m n : ℕ) → ((i : ℕ) → i < m → g (a + i) ≡ h (b + i)) → Over g a (a + m) n → Over h b (b + m) n
 over_there g h a b m n agree x =
@@ -32,7 +58,7 @@ over_there g h a b m n agree x =
     record { adds = omega (arith, x.adds, e, sum_split g a m, sum_split h b m); few = omega (arith, x.few) }
 
 -- a part cut off where all that follows is 0
-over_cut : (g : ℕ → ℕ) (len f x a b n : ℕ) → ((k : ℕ) → len ≤ k → g k ≡ 0) → f ≤ x → a ≡ f - (f - len) → b ≡ x - (x - len) → Over g a b n → Over g f x n
+over_cut : (g : ℕ → ℕ) (len f x a b n : ℕ) → ((k : ℕ) → len ≤ k → g k ≡ 0) → f ≤ x → a ≡ min f len → b ≡ min x len → Over g a b n → Over g f x n
 over_cut g len f x a b n past l from upto c = by_cases (dec_le len f) outside inside
   where
     outside : len ≤ f → Over g f x n
@@ -64,7 +90,7 @@ page_slot e first i f h big is =
 
 -- their words are those from number f on
 pub block_words : (ws : List ℕ) (e first end f a b mask v n : ℕ) → 0 < v → first ≤ end → end ≤ 512 * (first / 512) + 512 → 0x4000_0000 ≤ e
-    → f ≡ 512 * (e / 1024 - 0x10_0000) + first % 512 → a ≡ f - (f - length ws) → b ≡ f + (end - first) - (f + (end - first) - length ws)
+    → f ≡ 512 * (e / 1024 - 0x10_0000) + first % 512 → a ≡ min f (length ws) → b ≡ min (f + (end - first)) (length ws)
     → Over (alike mask v (word ws)) a b n → Over (alike mask v (entry_under ws e)) first end n
 block_words ws e first end f a b mask v n hv l h big is from upto c =
     let z : first + (end - first) ≡ end = omega arith in
@@ -111,7 +137,7 @@ pub run_one : (ws : List ℕ) (m r : ℕ) → Run ws m r → 0 < slot_word ws m 
 run_one ws m r c h = by_cases (dec_le r 1) (λ q. omega (arith, c.some)) (λ q. absurd (omega (arith, c.empty (omega arith) m (omega arith) (omega arith))))
 
 -- where a scan goes on behind r blocks from page p on, or at the end
-pub next_block : (p end r n : ℕ) → p < end → 1 ≤ r → n ≡ 512 * (p / 512 + r) - (512 * (p / 512 + r) - end) → (p ≤ n) × (n ≤ end) × (n ≤ 512 * (p / 512 + r))
+pub next_block : (p end r n : ℕ) → p < end → 1 ≤ r → n ≡ min (512 * (p / 512 + r)) end → (p ≤ n) × (n ≤ end) × (n ≤ 512 * (p / 512 + r))
 next_block p end r n h l e = (omega arith, omega arith, omega arith)
 
 -- what is counted up to there fits

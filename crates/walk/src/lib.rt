@@ -7,7 +7,7 @@ mod ranges;
 mod runs;
 mod steps;
 
-pub use missing::{lesser, missing_tables};
+pub use missing::missing_tables;
 pub use ranges::count_pages;
 pub use runs::run_of;
 pub use steps::{slot_in, slot_of, slot_word};

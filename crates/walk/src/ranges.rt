@@ -1,26 +1,20 @@
 // How many pages of a range have a level-0 word with certain bits: a missing group or block is stepped over whole, and the words
 // of a table are counted as one part.
-ghost use Rattle.std.specs.Prelude.{◌+◌, ◌*◌, ◌/◌, ◌^◌, ◌<◌, ◌≤◌, length};
-ghost use Rattle.store.specs.Store.{word};
+ghost use Rattle.std.specs.Prelude.{◌≡◌, ◌==◌, ◌+◌, ◌*◌, ◌/◌, ◌^◌, ◌<◌, ◌≤◌, bit_and, count_by};
 ghost use Rattle.well_formed.specs.Scan.{Over};
 ghost use Rattle.walk.specs.Missing.{entry_under};
 ghost use Rattle.walk.specs.Ranges.{alike, PagesAlike, page_under};
 
-use super::missing::lesser;
 use super::runs::run_of;
 use super::steps::{slot_in, slot_word};
 
-// How many words from a up to e have the bits v under the mask.
-fn count_part(words: &[u64], a: usize, e: usize, mask: u64, v: u64) -> usize
-    requires { (a ≤ e) × (e ≤ length words.now) }
-    ensures { Over (alike mask v (word words.now)) a e result }
+// How many words have the bits v under the mask.
+fn count_part(words: &[u64], mask: u64, v: u64) -> usize
+    ensures { result ≡ count_by (λ x. bit_and x mask == v) words.now }
 {
     let mut n: usize = 0;
-    let mut i = a;
-    while i < e {
-        let x = words[i] & mask;
-        i += 1;
-        if x == v {
+    for x in words {
+        if *x & mask == v {
             n += 1;
         }
     }
@@ -28,17 +22,13 @@ fn count_part(words: &[u64], a: usize, e: usize, mask: u64, v: u64) -> usize
 }
 
 // The same; for bit 0 alone the numbers are written out, for a shorter loop.
-fn count_bits(words: &[u64], a: usize, e: usize, mask: u64, v: u64) -> usize
-    requires { (a ≤ e) × (e ≤ length words.now) }
-    ensures { Over (alike mask v (word words.now)) a e result }
+fn count_bits(words: &[u64], mask: u64, v: u64) -> usize
+    ensures { result ≡ count_by (λ x. bit_and x mask == v) words.now }
 {
-    if mask != 1 {
-        return count_part(words, a, e, mask, v);
+    if mask == 1 && v == 1 {
+        return count_part(words, 1, 1);
     }
-    if v != 1 {
-        return count_part(words, a, e, mask, v);
-    }
-    count_part(words, a, e, 1, 1)
+    count_part(words, mask, v)
 }
 
 // How many pages from first up to end of one block do, where e is its entry; of several blocks, where it is 0.
@@ -50,9 +40,9 @@ fn count_block(words: &[u64], e: u64, first: usize, end: usize, mask: u64, v: u6
         return 0;
     }
     let from = 512 * ((e / 1024) as usize - 0x10_0000) + first % 512;
-    let a = lesser(from, words.len());
-    let b = lesser(from + (end - first), words.len());
-    count_bits(words, a, b, mask, v)
+    let a = from.min(words.len());
+    let b = (from + (end - first)).min(words.len());
+    count_bits(&words[a..b], mask, v)
 }
 
 // How many pages from first up to end of one group do, where top is the root's entry of it.
@@ -65,9 +55,10 @@ fn count_group(words: &[u64], top: u64, first: usize, end: usize, mask: u64, v: 
     }
     let mut n: usize = 0;
     let mut page = first;
+    // No `for`: a step is as long as `run_of` answers.
     while page < end {
         let m = slot_in(top, page / 512 % 512);
-        let next = lesser(512 * (page / 512 + run_of(words, m)), end);
+        let next = (512 * (page / 512 + run_of(words, m))).min(end);
         let e = slot_word(words, m);
         n += count_block(words, e, page, next, mask, v);
         page = next;
@@ -82,9 +73,10 @@ pub fn count_pages(words: &[u64], root: usize, first: usize, end: usize, mask: u
 {
     let mut n: usize = 0;
     let mut page = first;
+    // No `for`: a step is as long as `run_of` answers.
     while page < end {
         let m = 512 * root + page / 512 / 512 + 2;
-        let next = lesser(262144 * (page / 512 / 512 + run_of(words, m)), end);
+        let next = (262144 * (page / 512 / 512 + run_of(words, m))).min(end);
         let top = slot_word(words, m);
         n += count_group(words, top, page, next, mask, v);
         page = next;

@@ -38,7 +38,7 @@ overflow_add-from c =
     let l = c.loop-i in
     let q : l.i < length a.dst.now = omega arith in
     let p = c.requires.pages l.i (inl q) in
-    omega (arith, c.place-from.ensures a.store.now.tmarks.now a.store.now.bytes.now a.store.now.fmarks.now, page_room (seen a.store.now) a.root c.requires.at_root.sized (a.va + l.i) _ p (turn (a.va + l.i) _ _ c.lesser-k.ensures))
+    omega (arith, c.place-from.ensures a.store.now.tmarks.now a.store.now.bytes.now a.store.now.fmarks.now, page_room (seen a.store.now) a.root c.requires.at_root.sized (a.va + l.i) _ p (turn (a.va + l.i) _ _ c.min-k.ensures))
 
 pub slice_bounds-copy_from_slice-end-in-loop-i : goal.slice_bounds-copy_from_slice-end-in-loop-i
 slice_bounds-copy_from_slice-end-in-loop-i c =
@@ -46,7 +46,7 @@ slice_bounds-copy_from_slice-end-in-loop-i c =
     let l = c.loop-i in
     let q : l.i < length a.dst.now = omega arith in
     let p = c.requires.pages l.i (inl q) in
-    omega (arith, c.place-from.ensures a.store.now.tmarks.now a.store.now.bytes.now a.store.now.fmarks.now, page_room (seen a.store.now) a.root c.requires.at_root.sized (a.va + l.i) _ p (turn (a.va + l.i) _ _ c.lesser-k.ensures))
+    omega (arith, c.place-from.ensures a.store.now.tmarks.now a.store.now.bytes.now a.store.now.fmarks.now, page_room (seen a.store.now) a.root c.requires.at_root.sized (a.va + l.i) _ p (turn (a.va + l.i) _ _ c.min-k.ensures))
 
 pub copy_from_slice-requires : goal.copy_from_slice-requires
 copy_from_slice-requires c =
@@ -54,13 +54,13 @@ copy_from_slice-requires c =
     let l = c.loop-i in
     let q : l.i < length a.dst.now = omega arith in
     let p = c.requires.pages l.i (inl q) in
-    part_length l.dst l.i _ (omega (arith, c.lesser-k.ensures)) ∙ sym (part_length a.store.now.bytes.now _ _ (omega (arith, c.place-from.ensures a.store.now.tmarks.now a.store.now.bytes.now a.store.now.fmarks.now, page_room (seen a.store.now) a.root c.requires.at_root.sized (a.va + l.i) _ p (turn (a.va + l.i) _ _ c.lesser-k.ensures))))
+    part_length l.dst l.i _ (omega (arith, c.min-k.ensures)) ∙ sym (part_length a.store.now.bytes.now _ _ (omega (arith, c.place-from.ensures a.store.now.tmarks.now a.store.now.bytes.now a.store.now.fmarks.now, page_room (seen a.store.now) a.root c.requires.at_root.sized (a.va + l.i) _ p (turn (a.va + l.i) _ _ c.min-k.ensures))))
 
 pub loop-i-smaller : goal.loop-i-smaller
 loop-i-smaller c =
     let a = c.args in
     let l = c.loop-i in
-    turn_less (a.va + l.i) _ _ l.i _ l.invariant.1 c.loop-i-test.true c.lesser-k.ensures
+    turn_less (a.va + l.i) _ _ l.i _ l.invariant.1 c.loop-i-test.true c.min-k.ensures
 
 pub loop-i-preserved : goal.loop-i-preserved
 loop-i-preserved c =
@@ -70,7 +70,7 @@ loop-i-preserved c =
     let p = c.requires.pages l.i (inl q) in (
       omega arith,
       search rules,
-      read_more (seen a.store.now) a.root a.va a.dst.now l.dst l.i l.invariant.2 _ _ (c.place-from.ensures a.store.now.tmarks.now a.store.now.bytes.now a.store.now.fmarks.now) (turn (a.va + l.i) _ _ c.lesser-k.ensures) (omega (arith, c.place-from.ensures a.store.now.tmarks.now a.store.now.bytes.now a.store.now.fmarks.now, page_room (seen a.store.now) a.root c.requires.at_root.sized (a.va + l.i) _ p (turn (a.va + l.i) _ _ c.lesser-k.ensures))) _ c.copy_from_slice.ensures.after,
+      read_more (seen a.store.now) a.root a.va a.dst.now l.dst l.i l.invariant.2 _ _ (c.place-from.ensures a.store.now.tmarks.now a.store.now.bytes.now a.store.now.fmarks.now) (turn (a.va + l.i) _ _ c.min-k.ensures) (omega (arith, c.place-from.ensures a.store.now.tmarks.now a.store.now.bytes.now a.store.now.fmarks.now, page_room (seen a.store.now) a.root c.requires.at_root.sized (a.va + l.i) _ p (turn (a.va + l.i) _ _ c.min-k.ensures))) _ c.copy_from_slice.ensures.after,
     )
 
 pub returns : goal.returns

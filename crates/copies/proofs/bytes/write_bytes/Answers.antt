@@ -34,27 +34,27 @@ overflow_add-to c =
     let a = c.args in
     let l = c.loop-i in
     let p = c.requires.pages l.i (inl c.loop-i-test.true) in
-    omega (arith, c.place-to.ensures a.tmarks.now a.bytes.now a.fmarks.now, page_room (store_of a.words.now a.tmarks.now a.bytes.now a.fmarks.now) a.root c.requires.at_root.sized (a.va + l.i) _ p (turn (a.va + l.i) _ _ c.lesser-k.ensures))
+    omega (arith, c.place-to.ensures a.tmarks.now a.bytes.now a.fmarks.now, page_room (store_of a.words.now a.tmarks.now a.bytes.now a.fmarks.now) a.root c.requires.at_root.sized (a.va + l.i) _ p (turn (a.va + l.i) _ _ c.min-k.ensures))
 
 pub slice_bounds-copy_from_slice-end : goal.slice_bounds-copy_from_slice-end
 slice_bounds-copy_from_slice-end c =
     let a = c.args in
     let l = c.loop-i in
     let p = c.requires.pages l.i (inl c.loop-i-test.true) in
-    omega (arith, c.place-to.ensures a.tmarks.now a.bytes.now a.fmarks.now, page_room (store_of a.words.now a.tmarks.now a.bytes.now a.fmarks.now) a.root c.requires.at_root.sized (a.va + l.i) _ p (turn (a.va + l.i) _ _ c.lesser-k.ensures))
+    omega (arith, c.place-to.ensures a.tmarks.now a.bytes.now a.fmarks.now, page_room (store_of a.words.now a.tmarks.now a.bytes.now a.fmarks.now) a.root c.requires.at_root.sized (a.va + l.i) _ p (turn (a.va + l.i) _ _ c.min-k.ensures))
 
 pub copy_from_slice-requires : goal.copy_from_slice-requires
 copy_from_slice-requires c =
     let a = c.args in
     let l = c.loop-i in
     let p = c.requires.pages l.i (inl c.loop-i-test.true) in
-    part_length l.bytes c.place-to.result c.lesser-k.result (omega (arith, c.place-to.ensures a.tmarks.now a.bytes.now a.fmarks.now, page_room (store_of a.words.now a.tmarks.now a.bytes.now a.fmarks.now) a.root c.requires.at_root.sized (a.va + l.i) _ p (turn (a.va + l.i) _ _ c.lesser-k.ensures))) ∙ sym (part_length a.src.now l.i _ (omega (arith, c.lesser-k.ensures)))
+    part_length l.bytes c.place-to.result c.min-k.result (omega (arith, c.place-to.ensures a.tmarks.now a.bytes.now a.fmarks.now, page_room (store_of a.words.now a.tmarks.now a.bytes.now a.fmarks.now) a.root c.requires.at_root.sized (a.va + l.i) _ p (turn (a.va + l.i) _ _ c.min-k.ensures))) ∙ sym (part_length a.src.now l.i _ (omega (arith, c.min-k.ensures)))
 
 pub loop-i-smaller : goal.loop-i-smaller
 loop-i-smaller c =
     let a = c.args in
     let l = c.loop-i in
-    turn_less (a.va + l.i) _ _ l.i _ refl c.loop-i-test.true c.lesser-k.ensures
+    turn_less (a.va + l.i) _ _ l.i _ refl c.loop-i-test.true c.min-k.ensures
 
 pub loop-i-preserved : goal.loop-i-preserved
 loop-i-preserved c =
@@ -63,7 +63,7 @@ loop-i-preserved c =
     let p = c.requires.pages l.i (inl c.loop-i-test.true) in (
       omega arith,
       search rules,
-      write_more (store_of a.words.now a.tmarks.now a.bytes.now a.fmarks.now) a.root a.va a.src.now a.bytes.now l.bytes l.i l.invariant.2 _ _ (c.place-to.ensures a.tmarks.now a.bytes.now a.fmarks.now) (turn (a.va + l.i) _ _ c.lesser-k.ensures) (omega (arith, c.place-to.ensures a.tmarks.now a.bytes.now a.fmarks.now, page_room (store_of a.words.now a.tmarks.now a.bytes.now a.fmarks.now) a.root c.requires.at_root.sized (a.va + l.i) _ p (turn (a.va + l.i) _ _ c.lesser-k.ensures))) (omega (arith, c.lesser-k.ensures)) _ c.copy_from_slice.ensures.after,
+      write_more (store_of a.words.now a.tmarks.now a.bytes.now a.fmarks.now) a.root a.va a.src.now a.bytes.now l.bytes l.i l.invariant.2 _ _ (c.place-to.ensures a.tmarks.now a.bytes.now a.fmarks.now) (turn (a.va + l.i) _ _ c.min-k.ensures) (omega (arith, c.place-to.ensures a.tmarks.now a.bytes.now a.fmarks.now, page_room (store_of a.words.now a.tmarks.now a.bytes.now a.fmarks.now) a.root c.requires.at_root.sized (a.va + l.i) _ p (turn (a.va + l.i) _ _ c.min-k.ensures))) (omega (arith, c.min-k.ensures)) _ c.copy_from_slice.ensures.after,
     )
 
 pub returns : goal.returns

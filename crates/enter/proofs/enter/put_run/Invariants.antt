@@ -1,12 +1,6 @@
 -- The invariants of the loops.
-use mathlib.Core.Path.{◌≡◌}
-use Prim.Native.Nat.{◌-◌, ◌≤◌}
-use lib.ListN.{length}
 use Rattle.enter.proofs.PutRun.{Putting}
 use Rattle.enter.proofs.enter.put_run.Given as goal
 
 abbrev pub invariant-loop-i : goal.invariant-loop-i
-invariant-loop-i l = (l.i ≤ l.n) × (length l.words ≡ length l.initial.words) × Putting l.initial.words l.m l.n l.e l.words l.i
-
-abbrev pub decreases-loop-i : goal.decreases-loop-i
-decreases-loop-i l = l.n - l.i
+invariant-loop-i l = Putting l.initial.words l.m l.n l.e l.words l.i

@@ -39,7 +39,7 @@ pub overflow_add-from : goal.overflow_add-from
 overflow_add-from c =
     let a = c.args in
     let l = c.loop-k in
-    omega (arith, room (seen a.store.now) a.root a.va a.max c.requires l.i l.invariant (c.in_ok-judge_page.ensures) _ _ c.lesser-k.ensures (c.place-from.ensures _ _ _))
+    omega (arith, room (seen a.store.now) a.root a.va a.max c.requires l.i l.invariant (c.in_ok-judge_page.ensures) _ _ c.min-k.ensures (c.place-from.ensures _ _ _))
 
 pub slice_bounds-first_zero-count : goal.slice_bounds-first_zero-count
 slice_bounds-first_zero-count c =
@@ -57,40 +57,40 @@ pub slice_bounds-first_zero-end : goal.slice_bounds-first_zero-end
 slice_bounds-first_zero-end c =
     let a = c.args in
     let l = c.loop-k in
-    omega (arith, room (seen a.store.now) a.root a.va a.max c.requires l.i l.invariant (c.in_ok-judge_page.ensures) _ _ c.lesser-k.ensures (c.place-from.ensures _ _ _))
+    omega (arith, room (seen a.store.now) a.root a.va a.max c.requires l.i l.invariant (c.in_ok-judge_page.ensures) _ _ c.min-k.ensures (c.place-from.ensures _ _ _))
 
 pub overflow_add-result : goal.overflow_add-result
 overflow_add-result c =
     let a = c.args in
     let l = c.loop-k in
-    omega (arith, c.lesser-k.ensures, upto (seen a.store.now) a.root a.va a.max l.i l.invariant)
+    omega (arith, c.min-k.ensures, upto (seen a.store.now) a.root a.va a.max l.i l.invariant)
 
 pub returns-then-z-k : goal.returns-then-z-k
 returns-then-z-k c =
     let a = c.args in
     let l = c.loop-k in
-    met (seen a.store.now) a.root a.va a.max c.requires l.i l.invariant (c.in_ok-judge_page.ensures) _ _ c.lesser-k.ensures (c.place-from.ensures _ _ _) _ c.first_zero-z.ensures c.if-z-k.true
+    met (seen a.store.now) a.root a.va a.max c.requires l.i l.invariant (c.in_ok-judge_page.ensures) _ _ c.min-k.ensures (c.place-from.ensures _ _ _) _ c.first_zero-z.ensures c.if-z-k.true
 
 pub overflow_add-i : goal.overflow_add-i
 overflow_add-i c =
     let a = c.args in
     let l = c.loop-k in
-    omega (arith, c.lesser-k.ensures, upto (seen a.store.now) a.root a.va a.max l.i l.invariant)
+    omega (arith, c.min-k.ensures, upto (seen a.store.now) a.root a.va a.max l.i l.invariant)
 
 pub returns-then-i-max : goal.returns-then-i-max
 returns-then-i-max c =
     let a = c.args in
     let l = c.loop-k in
-    whole (seen a.store.now) a.root a.va a.max c.requires l.i l.invariant (c.in_ok-judge_page.ensures) _ _ c.lesser-k.ensures (c.place-from.ensures _ _ _) _ c.first_zero-z.ensures c.if-z-k.false c.if-i-max.true
+    whole (seen a.store.now) a.root a.va a.max c.requires l.i l.invariant (c.in_ok-judge_page.ensures) _ _ c.min-k.ensures (c.place-from.ensures _ _ _) _ c.first_zero-z.ensures c.if-z-k.false c.if-i-max.true
 
 pub loop-k-smaller : goal.loop-k-smaller
 loop-k-smaller c =
     let a = c.args in
     let l = c.loop-k in
-    omega (arith, c.lesser-k.ensures, upto (seen a.store.now) a.root a.va a.max l.i l.invariant)
+    omega (arith, c.min-k.ensures, upto (seen a.store.now) a.root a.va a.max l.i l.invariant)
 
 pub loop-k-preserved : goal.loop-k-preserved
 loop-k-preserved c =
     let a = c.args in
     let l = c.loop-k in
-    again (seen a.store.now) a.root a.va a.max c.requires l.i l.invariant (c.in_ok-judge_page.ensures) _ _ c.lesser-k.ensures (c.place-from.ensures _ _ _) _ c.first_zero-z.ensures c.if-z-k.false c.if-i-max.false
+    again (seen a.store.now) a.root a.va a.max c.requires l.i l.invariant (c.in_ok-judge_page.ensures) _ _ c.min-k.ensures (c.place-from.ensures _ _ _) _ c.first_zero-z.ensures c.if-z-k.false c.if-i-max.false

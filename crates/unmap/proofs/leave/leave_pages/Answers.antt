@@ -27,21 +27,21 @@ leave_run-requires c =
     let a = c.args in
     let l = c.loop-i in
     let t = c.loop-i-test.true in
-    let k = c.lesser-k.ensures in
+    let k = c.min-k.ensures in
     can (store_of a.words.now a.tmarks.now a.bytes.now a.fmarks.now) a.root a.first a.n a.freeing (store_of l.words a.tmarks.now a.bytes.now l.fmarks) l.i l.invariant.2 _ _ c.slot_of-m.ensures (omega (arith, k, t)) (omega (arith, k, t)) (omega (arith, k, t))
 
 pub overflow_add-i : goal.overflow_add-i
-overflow_add-i c = omega (arith, c.lesser-k.ensures, c.loop-i-test.true)
+overflow_add-i c = omega (arith, c.min-k.ensures, c.loop-i-test.true)
 
 pub loop-i-smaller : goal.loop-i-smaller
-loop-i-smaller c = omega (arith, c.lesser-k.ensures, c.loop-i-test.true)
+loop-i-smaller c = omega (arith, c.min-k.ensures, c.loop-i-test.true)
 
 pub loop-i-preserved : goal.loop-i-preserved
 loop-i-preserved c =
     let a = c.args in
     let l = c.loop-i in
     let t = c.loop-i-test.true in
-    let k = c.lesser-k.ensures in
+    let k = c.min-k.ensures in
     let went = c.leave_run.ensures a.tmarks.now a.bytes.now in (
       search rules,
       search rules,

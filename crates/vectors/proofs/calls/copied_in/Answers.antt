@@ -5,4 +5,4 @@ use lib.Seq.{length-take-le}
 use Rattle.vectors.proofs.calls.copied_in.Goals as goal
 
 pub slice_bounds-dst-end-2 : goal.slice_bounds-dst-end-2
-slice_bounds-dst-end-2 c = sym (length-take-le _ c.args.lent.now (omega (arith, c.lesser-n.ensures)))
+slice_bounds-dst-end-2 c = sym (length-take-le _ c.args.lent.now (omega (arith, c.min-n.ensures)))

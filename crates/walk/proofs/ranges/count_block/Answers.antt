@@ -1,7 +1,7 @@
 -- `walk::ranges::count_block` meets its contract. Assumes nothing.
-use mathlib.Core.Path.{refl}
+use mathlib.Core.Path.{refl, sym}
 use native.Mathlib.Omega.{arith}
-use Rattle.walk.proofs.RangeLaws.{block_low, block_words}
+use Rattle.walk.proofs.RangeLaws.{listed_part, block_low, block_words}
 use Rattle.walk.proofs.ranges.count_block.Goals as goal
 
 pub returns-then-e-lt1073741824 : goal.returns-then-e-lt1073741824
@@ -16,5 +16,6 @@ pub returns : goal.returns
 returns c =
     let a = c.args in
     let p = c.requires in
-    block_words a.words.now a.e a.first a.end _ _ _ a.mask a.v _ p.2 p.0 (p.1 c.if-e-lt1073741824.false) c.if-e-lt1073741824.false refl c.lesser-a.ensures c.lesser-b.ensures
-    c.count_bits.ensures
+    let read = listed_part a.mask a.v a.words.now c.min-a.result c.min-b.result (omega arith) (omega arith) in
+    block_words a.words.now a.e a.first a.end _ _ _ a.mask a.v _ p.2 p.0 (p.1 c.if-e-lt1073741824.false) c.if-e-lt1073741824.false refl c.min-a.ensures c.min-b.ensures
+    (rw (sym c.count_bits.ensures) at read)

@@ -26,18 +26,18 @@ pub count_block-n-requires : goal.count_block-n-requires
 count_block-n-requires c =
     let a = c.args in
     let run = c.run_of.ensures in
-    let next = next_block c.loop-page.page a.end _ _ c.loop-page-test.true run.some c.lesser-next.ensures in
+    let next = next_block c.loop-page.page a.end _ _ c.loop-page-test.true run.some c.min-next.ensures in
     (next.0, λ h. omega (arith, next.2, run_one a.words.now _ _ run (omega (arith, c.slot_word-e.ensures))), c.requires.2)
 
 pub overflow_add-n : goal.overflow_add-n
 overflow_add-n c =
     let a = c.args in
     let l = c.loop-page.invariant in
-    let next = next_block c.loop-page.page a.end _ _ c.loop-page-test.true c.run_of.ensures.some c.lesser-next.ensures in
+    let next = next_block c.loop-page.page a.end _ _ c.loop-page-test.true c.run_of.ensures.some c.min-next.ensures in
     record { fits = few_pages a.first c.loop-page.page _ a.end _ _ l.0 next.0 next.1 c.requires.1 l.2.few c.count_block-n.ensures.few }
 
 pub loop-page-smaller : goal.loop-page-smaller
-loop-page-smaller c = omega (arith, c.lesser-next.ensures, c.run_of.ensures.some, c.loop-page-test.true)
+loop-page-smaller c = omega (arith, c.min-next.ensures, c.run_of.ensures.some, c.loop-page-test.true)
 
 pub loop-page-preserved : goal.loop-page-preserved
 loop-page-preserved c =
@@ -45,7 +45,7 @@ loop-page-preserved c =
     let l = c.loop-page.invariant in
     let e = c.slot_word-e in
     let run = c.run_of.ensures in
-    let next = next_block c.loop-page.page a.end _ _ c.loop-page-test.true run.some c.lesser-next.ensures in (
+    let next = next_block c.loop-page.page a.end _ _ c.loop-page-test.true run.some c.min-next.ensures in (
       le_trans l.0 next.0,
       next.1,
       over_next (entry_under a.words.now e.result) (page_under a.words.now a.top) a.mask a.v a.first _ _ _ _ l.0 next.0

@@ -20,7 +20,7 @@ pub overflow_add-n : goal.overflow_add-n
 overflow_add-n c = omega (arith, c.count_group-n.ensures.few, c.loop-page.invariant.2.few)
 
 pub loop-page-smaller : goal.loop-page-smaller
-loop-page-smaller c = omega (arith, c.lesser-next.ensures, c.run_of.ensures.some, c.loop-page-test.true)
+loop-page-smaller c = omega (arith, c.min-next.ensures, c.run_of.ensures.some, c.loop-page-test.true)
 
 pub loop-page-preserved : goal.loop-page-preserved
 loop-page-preserved c =
