@@ -21,7 +21,7 @@ use Rattle.process.proofs.CutLaws.{whole, one_less}
 -- ---- a page at va, and then Q, where F is enough for Q
 
 module _ (root va : ℕ) (Q : Store → Result ℕ Refusal → Store → Type 0) (s : Store) where
-  pub page_refused : (k : Refusal) → Smallest (UnmapReason s root va 1 false) (number_of k) → Then (UnmapOne root va) Q s (Err k) s
+  page_refused : (k : Refusal) → Smallest (UnmapReason s root va 1 false) (number_of k) → Then (UnmapOne root va) Q s (Err k) s
   page_refused k m = (inl (m, refl), refl)
 
   module _ (aligned : va % 4096 ≡ 0) (c : CanLeave s root (va / 4096) 1 false) where
@@ -79,19 +79,17 @@ module _ (s : Store) (root size : ℕ) (f : UnmapReady s root trampoline 1 false
 
 -- ---- the work, where it can be done: t is the store that the pages before leave
 
-module _ (s : Store) (root size : ℕ) where
-  module _ (f : SharedReady root size s) (t : Store) (e : t ≡ leave_pages s root (trampoline / 4096) 1 false) where
-    pub shared_done : (v : ℕ) (u : Store) → UvmFree root size t (Ok v) u → SharedFree root size s (Ok v) u
-    shared_done v u d =
-        page_done root trampoline (UvmFree root size) s refl f.leave v u (subst (λ (x : Store). UvmFree root size x (Ok v) u) e d)
+module _ (s : Store) (root size : ℕ) (t : Store) (e : t ≡ leave_pages s root (trampoline / 4096) 1 false) where
+  pub shared_done : SharedReady root size s → (v : ℕ) (u : Store) → UvmFree root size t (Ok v) u → SharedFree root size s (Ok v) u
+  shared_done f v u d =
+      page_done root trampoline (UvmFree root size) s refl f.leave v u (subst (λ (x : Store). UvmFree root size x (Ok v) u) e d)
 
-  module _ (f : ProcReady root size s) (t : Store) (e : t ≡ leave_pages s root (trampoline / 4096) 1 false) where
-    module _ (t' : Store) (e' : t' ≡ leave_pages t root (trapframe / 4096) 1 false) where
-      both_gone : t' ≡ leave_pages (leave_pages s root (trampoline / 4096) 1 false) root (trapframe / 4096) 1 false
-      both_gone = e' ∙ ap (λ (x : Store). leave_pages x root (trapframe / 4096) 1 false) e
+  module _ (t' : Store) (e' : t' ≡ leave_pages t root (trapframe / 4096) 1 false) where
+    both_gone : t' ≡ leave_pages (leave_pages s root (trampoline / 4096) 1 false) root (trapframe / 4096) 1 false
+    both_gone = e' ∙ ap (λ (x : Store). leave_pages x root (trapframe / 4096) 1 false) e
 
-      pub proc_done : (v : ℕ) (u : Store) → UvmFree root size t' (Ok v) u → ProcFree root size s (Ok v) u
-      proc_done v u d =
-          page_done root trampoline (Then (UnmapOne root trapframe) (UvmFree root size)) s refl f.leave v u
-          (page_done root trapframe (UvmFree root size) (leave_pages s root (trampoline / 4096) 1 false) refl f.rest.leave v u
-          (subst (λ (x : Store). UvmFree root size x (Ok v) u) both_gone d))
+    pub proc_done : ProcReady root size s → (v : ℕ) (u : Store) → UvmFree root size t' (Ok v) u → ProcFree root size s (Ok v) u
+    proc_done f v u d =
+        page_done root trampoline (Then (UnmapOne root trapframe) (UvmFree root size)) s refl f.leave v u
+        (page_done root trapframe (UvmFree root size) (leave_pages s root (trampoline / 4096) 1 false) refl f.rest.leave v u
+        (subst (λ (x : Store). UvmFree root size x (Ok v) u) both_gone d))

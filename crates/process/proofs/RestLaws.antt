@@ -158,17 +158,17 @@ module _ (s : Store) (root size top : ℕ) (high : top ≤ 2 ^ 26) where
     page_missing h t c = past s root size top t c small (omega arith) (omega arith)
 
     module _ (h : n ≤ top) where
-      asked : n - 0 ≡ pages_to size
-      asked = omega arith
+      all_asked : n - 0 ≡ pages_to size
+      all_asked = omega arith
 
       pub pages_refused : (k : Refusal) → Smallest (LeaveReason s root 0 (n - 0) true) (number_of k) → JudgesRest s root size top (Err k)
       pages_refused k m t c =
           by_leave s root size top t c small k
-          (smallest_same (same s root size top t c small (omega arith)) true (number_of k) (subst (λ (x : ℕ). Smallest (LeaveReason s root 0 x true) (number_of k)) asked m))
+          (smallest_same (same s root size top t c small (omega arith)) true (number_of k) (subst (λ (x : ℕ). Smallest (LeaveReason s root 0 x true) (number_of k)) all_asked m))
 
       module _ (f : LeaveReady s root 0 (n - 0) true) (m : ℕ) (count : PagesAlike s.words root n top 1 1 m) where
         ready : LeaveReady s root 0 (pages_to size) true
-        ready = subst (λ (x : ℕ). LeaveReady s root 0 x true) asked f
+        ready = subst (λ (x : ℕ). LeaveReady s root 0 x true) all_asked f
 
         counted : PagesAlike s.words root (pages_to size) top 1 1 m
         counted = subst (λ (x : ℕ). PagesAlike s.words root x top 1 1 m) e count
@@ -181,13 +181,14 @@ module _ (s : Store) (root size top : ℕ) (high : top ≤ 2 ^ 26) where
 
 -- ---- the work, where it can be done
 
-module _ (s : Store) (root size : ℕ) (f : RestReady root size s) where
-  module _ (n : ℕ) (e : n ≡ pages_to size) where
-    module _ (t : Store) (q : t ≡ leave_pages s root 0 n true) where
-      free_ready : FreeReady t root
-      free_ready = subst (λ (x : Store). FreeReady x root) (sym (q ∙ ap (λ (x : ℕ). leave_pages s root 0 x true) e)) f.free
+module _ (s : Store) (root size : ℕ) (f : RestReady root size s) (n : ℕ) (e : n ≡ pages_to size) (t : Store) (q : t ≡ leave_pages s root 0 n true) where
+  all_gone : t ≡ left root size s
+  all_gone = q ∙ ap (λ (x : ℕ). leave_pages s root 0 x true) e
 
-      pub rest_done : (ws ms : List ℕ) (v : ℕ) → trees ws ms v ≡ free_tree 2 root t.words t.tmarks → UvmFree root size s (Ok v) (store_of ws ms t.bytes t.fmarks)
-      rest_done ws ms v d =
-          both_done root size s v (store_of ws ms t.bytes t.fmarks) f.leave
-          (subst (λ (x : Store). Free x root (Ok v) (store_of ws ms t.bytes t.fmarks)) (q ∙ ap (λ (x : ℕ). leave_pages s root 0 x true) e) (done t root free_ready ws ms v d))
+  free_ready : FreeReady t root
+  free_ready = subst (λ (x : Store). FreeReady x root) (sym all_gone) f.free
+
+  pub rest_done : (ws ms : List ℕ) (v : ℕ) → trees ws ms v ≡ free_tree 2 root t.words t.tmarks → UvmFree root size s (Ok v) (store_of ws ms t.bytes t.fmarks)
+  rest_done ws ms v d =
+      both_done root size s v (store_of ws ms t.bytes t.fmarks) f.leave
+      (subst (λ (x : Store). Free x root (Ok v) (store_of ws ms t.bytes t.fmarks)) all_gone (done t root free_ready ws ms v d))

@@ -18,7 +18,7 @@ const TRAMPOLINE_PAGE: usize = 0x3FF_FFFF;
 
 const TRAPFRAME_PAGE: usize = 0x3FF_FFFE;
 
-// Whether the last parts, unmapping from 0 to size and freeing, are refused where the pages from top on have gone before.
+// Judges the last parts, unmapping from 0 to size and freeing, where the pages from top on have gone before.
 fn judge_rest(store: &Store, root: usize, size: u64, top: usize) -> Result<(), Refusal>
     requires { RootReady (seen store.now) root × (top ≤ 2 ^ 26) }
     ensures { JudgesRest (seen store.now) root size top result }
@@ -64,7 +64,7 @@ fn do_rest(
     release::free_table(words, tmarks, root, 2) as u64
 }
 
-// Whether the root can be named, and then the last parts.
+// Judges the root, and then the last parts.
 fn judge_uvm_free(store: &Store, root: u64, size: u64) -> Result<(), Refusal>
     ensures { JudgesParts (UvmFree root size) (RestReady root size) (seen store.now) result }
 {
@@ -95,7 +95,7 @@ pub fn uvm_free(
     Ok(do_rest(words, tmarks, bytes, fmarks, root as usize, size))
 }
 
-// Whether TRAMPOLINE can leave without freeing, and then the last parts.
+// Judges the leaving of TRAMPOLINE without freeing, and then the last parts.
 fn judge_shared(store: &Store, root: u64, size: u64) -> Result<(), Refusal>
     ensures { JudgesParts (SharedFree root size) (SharedReady root size) (seen store.now) result }
 {
@@ -137,7 +137,7 @@ pub fn free_shared_user_pagetable(
     Ok(do_rest(words, tmarks, bytes, fmarks, root, size))
 }
 
-// Whether TRAMPOLINE and TRAPFRAME can leave without freeing, and then the last parts.
+// Judges the leaving of TRAMPOLINE and TRAPFRAME without freeing, and then the last parts.
 fn judge_proc(store: &Store, root: u64, size: u64) -> Result<(), Refusal>
     ensures { JudgesParts (ProcFree root size) (ProcReady root size) (seen store.now) result }
 {

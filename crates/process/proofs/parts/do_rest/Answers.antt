@@ -8,4 +8,4 @@ returns c =
     let a = c.args in
     let l = c.leave_pages in
     let r = c.free_table in
-    rest_done (store_of a.words.now a.tmarks.now a.bytes.now a.fmarks.now) a.root a.size c.requires _ c.pages_to.ensures (store_of l.new.words a.tmarks.now a.bytes.now l.new.fmarks) l.ensures r.new.words r.new.tmarks r.result r.ensures
+    rest_done (store_of a.words.now a.tmarks.now a.bytes.now a.fmarks.now) a.root a.size c.requires _ c.pages_to.ensures _ l.ensures _ _ _ r.ensures

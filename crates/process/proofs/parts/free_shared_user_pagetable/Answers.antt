@@ -8,4 +8,4 @@ returns c =
     let a = c.args in
     let l = c.leave_pages in
     let d = c.do_rest in
-    shared_done (store_of a.words.now a.tmarks.now a.bytes.now a.fmarks.now) a.root a.size c.in_ok-judge_shared.ensures (store_of l.new.words a.tmarks.now a.bytes.now l.new.fmarks) l.ensures _ (store_of d.new.words d.new.tmarks a.bytes.now d.new.fmarks) d.ensures
+    shared_done (store_of a.words.now a.tmarks.now a.bytes.now a.fmarks.now) a.root a.size _ l.ensures c.in_ok-judge_shared.ensures _ (store_of d.new.words d.new.tmarks a.bytes.now d.new.fmarks) d.ensures

@@ -9,4 +9,4 @@ returns c =
     let l = c.leave_pages in
     let n = c.leave_pages-2 in
     let d = c.do_rest in
-    proc_done (store_of a.words.now a.tmarks.now a.bytes.now a.fmarks.now) a.root a.size c.in_ok-judge_proc.ensures (store_of l.new.words a.tmarks.now a.bytes.now l.new.fmarks) l.ensures (store_of n.new.words a.tmarks.now a.bytes.now n.new.fmarks) n.ensures _ (store_of d.new.words d.new.tmarks a.bytes.now d.new.fmarks) d.ensures
+    proc_done (store_of a.words.now a.tmarks.now a.bytes.now a.fmarks.now) a.root a.size _ l.ensures _ n.ensures c.in_ok-judge_proc.ensures _ (store_of d.new.words d.new.tmarks a.bytes.now d.new.fmarks) d.ensures
