@@ -8,7 +8,8 @@ ghost use Rattle.child.specs.Child.{page_flags, page_bytes, ChildReason, ChildRe
 
 use address::MAXVA;
 use store::Answer;
-use unmap::{FRAME_PART, WINDOW};
+use unmap::IN_WINDOW;
+use walk::Bits;
 
 fn judge_child(
     words: &[u64],
@@ -41,13 +42,13 @@ fn judge_child(
         return 7;
     }
     let n = (size / 4096) as usize;
-    if walk::count_pages(words, parent as usize, 0, n, 1, 1) < n {
+    if walk::count_pages(words, parent as usize, 0, n, Bits::VALID) < n {
         return 11;
     }
-    if walk::count_pages(words, child as usize, 0, n, 1, 1) != 0 {
+    if walk::count_pages(words, child as usize, 0, n, Bits::VALID) != 0 {
         return 14;
     }
-    if walk::count_pages(words, parent as usize, 0, n, FRAME_PART, WINDOW) < n {
+    if walk::count_pages(words, parent as usize, 0, n, IN_WINDOW) < n {
         return 15;
     }
     fresh::judge_fresh(words, tmarks, bytes, fmarks, child as usize, 0, n)

@@ -22,7 +22,7 @@ pub fn judge_fresh(
         (FreshReady (store_of words.now tmarks.now bytes.now fmarks.now) root first (end - first))
         result }
 {
-    if walk::count_pages(words, root, first, end, 1, 1) != 0 {
+    if walk::count_pages(words, root, first, end, walk::Bits::VALID) != 0 {
         return 14;
     }
     if !store::enough_free(fmarks, end - first) {

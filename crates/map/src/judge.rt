@@ -81,7 +81,7 @@ pub fn judge_map(
     if end <= first {
         return 0;
     }
-    if walk::count_pages(words, r, first, end, 1, 1) != 0 {
+    if walk::count_pages(words, r, first, end, walk::Bits::VALID) != 0 {
         return 14;
     }
     if !store::enough_free(tmarks, walk::missing_tables(words, r, first, end)) {

@@ -43,7 +43,7 @@ fn judge_rest(
     if no != 0 {
         return no;
     }
-    if walk::count_pages(words, root, n, top, 1, 1) != 0 {
+    if walk::count_pages(words, root, n, top, walk::Bits::VALID) != 0 {
         return 18;
     }
     0

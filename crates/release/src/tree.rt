@@ -20,7 +20,7 @@ fn judge_free(words: &[u64], tmarks: &[u32], bytes: &[u8], fmarks: &[u32], root:
     if no != 0 {
         return no;
     }
-    if walk::count_pages(words, root as usize, 0, PAGES, 1, 1) != 0 {
+    if walk::count_pages(words, root as usize, 0, PAGES, walk::Bits::VALID) != 0 {
         return 18;
     }
     0

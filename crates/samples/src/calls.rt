@@ -36,7 +36,10 @@ pub fn growing(rt: &impl Print, name: &str, old: u64, new: u64) -> io::Result<()
     put(rt, name)?;
     put_answer(rt, a)?;
     put(rt, " pages")?;
-    put_number(rt, walk::count_pages(&words, 0, 0, 67108864, 1, 1) as u64)?;
+    put_number(
+        rt,
+        walk::count_pages(&words, 0, 0, 67108864, walk::Bits::VALID) as u64,
+    )?;
     put(rt, "\n")
 }
 

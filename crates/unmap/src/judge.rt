@@ -8,6 +8,7 @@ ghost use Rattle.unmap.specs.Leave.{MeetsPool, LeaveReason, LeaveReady};
 ghost use Rattle.unmap.specs.Unmap.{TooHigh, UnmapReason, UnmapReady};
 
 use address::VirtualAddress;
+use walk::Bits;
 
 const PAGES: u64 = 1 << 26;
 
@@ -15,6 +16,17 @@ const PAGES: u64 = 1 << 26;
 pub const FRAME_PART: u64 = 0xFFFF_FFFF_F800_0000;
 
 pub const WINDOW: u64 = 0x4000_0000;
+
+pub const IN_WINDOW: Bits = Bits {
+    mask: FRAME_PART,
+    value: WINDOW,
+};
+
+// All flags of a word are V alone.
+const V_ALONE: Bits = Bits {
+    mask: 1023,
+    value: 1,
+};
 
 // Whether, without freeing, one of the pages from first up to end has a pool frame.
 fn meets_pool(
@@ -34,7 +46,7 @@ fn meets_pool(
     if freeing {
         return false;
     }
-    if walk::count_pages(words, root, first, end, FRAME_PART, WINDOW) == 0 {
+    if walk::count_pages(words, root, first, end, IN_WINDOW) == 0 {
         return false;
     }
     true
@@ -60,10 +72,10 @@ pub fn judge_leave(
     if meets_pool(words, tmarks, bytes, fmarks, root, first, end, freeing) {
         return 10;
     }
-    if walk::count_pages(words, root, first, end, 1, 1) < end - first {
+    if walk::count_pages(words, root, first, end, Bits::VALID) < end - first {
         return 11;
     }
-    if walk::count_pages(words, root, first, end, 1023, 1) != 0 {
+    if walk::count_pages(words, root, first, end, V_ALONE) != 0 {
         return 13;
     }
     0
