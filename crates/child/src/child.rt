@@ -9,7 +9,8 @@ ghost use Rattle.child.specs.Child.{page_flags, page_bytes, ChildReason, ChildRe
 use address::MAXVA;
 use refusal::Refusal;
 use store::Store;
-use unmap::{FRAME_PART, WINDOW};
+use unmap::IN_WINDOW;
+use walk::Bits;
 
 fn judge_child(store: &Store, parent: u64, child: u64, size: u64) -> Result<(), Refusal>
     ensures { Judges
@@ -31,13 +32,13 @@ fn judge_child(store: &Store, parent: u64, child: u64, size: u64) -> Result<(), 
         return Err(Refusal::NotAligned);
     }
     let n = (size / 4096) as usize;
-    if walk::count_pages(store.words, parent as usize, 0, n, 1, 1) < n {
+    if walk::count_pages(store.words, parent as usize, 0, n, Bits::VALID) < n {
         return Err(Refusal::NotMapped);
     }
-    if walk::count_pages(store.words, child as usize, 0, n, 1, 1) != 0 {
+    if walk::count_pages(store.words, child as usize, 0, n, Bits::VALID) != 0 {
         return Err(Refusal::MappedAlready);
     }
-    if walk::count_pages(store.words, parent as usize, 0, n, FRAME_PART, WINDOW) < n {
+    if walk::count_pages(store.words, parent as usize, 0, n, IN_WINDOW) < n {
         return Err(Refusal::NoPoolFrame);
     }
     fresh::judge_fresh(store, child as usize, 0, n)

@@ -2,8 +2,8 @@
 ghost use Rattle.std.specs.Prelude.{◌≡◌};
 ghost use Rattle.command.specs.Command.{command_of, named};
 
-use super::numbers;
 use super::numbers::Numbers;
+use super::numbers;
 
 #[derive(Drop)]
 pub enum Command {

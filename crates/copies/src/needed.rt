@@ -8,12 +8,15 @@ ghost use Rattle.copies.specs.Needed.{PageReason, PageReady, CopyReason, CopyRea
 use address::MAXVA;
 use refusal::Refusal;
 use store::Store;
-use unmap::{FRAME_PART, WINDOW};
+use unmap::{FRAME_PART, IN_WINDOW, WINDOW};
+use walk::Bits;
 
 // The bits V and U of a word.
 const V: u64 = 1;
 
 const U: u64 = 16;
+
+const USER: Bits = Bits { mask: U, value: U };
 
 // 6, 11, 12 or 15, or 0, for the page of address a.
 pub fn judge_page(store: &Store, root: usize, a: u64) -> Result<(), Refusal>
@@ -70,13 +73,13 @@ pub fn judge_copy(store: &Store, root: u64, va: u64, n: usize) -> Result<(), Ref
     let r = root as usize;
     let first = (va / 4096) as usize;
     let end = pages_end(va, n as u64);
-    if walk::count_pages(store.words, r, first, end, V, V) < end - first {
+    if walk::count_pages(store.words, r, first, end, Bits::VALID) < end - first {
         return Err(Refusal::NotMapped);
     }
-    if walk::count_pages(store.words, r, first, end, U, U) < end - first {
+    if walk::count_pages(store.words, r, first, end, USER) < end - first {
         return Err(Refusal::NotUser);
     }
-    if walk::count_pages(store.words, r, first, end, FRAME_PART, WINDOW) < end - first {
+    if walk::count_pages(store.words, r, first, end, IN_WINDOW) < end - first {
         return Err(Refusal::NoPoolFrame);
     }
     Ok(())

@@ -8,6 +8,7 @@ ghost use Rattle.fresh.specs.Fresh.{FreshReason, FreshReady, FrameFits, FrameEnt
 
 use refusal::Refusal;
 use store::Store;
+use walk::Bits;
 
 // 14, 16 or 17, or 0, for the pages from first up to end.
 pub fn judge_fresh(store: &Store, root: usize, first: usize, end: usize) -> Result<(), Refusal>
@@ -17,7 +18,7 @@ pub fn judge_fresh(store: &Store, root: usize, first: usize, end: usize) -> Resu
         (FreshReady (seen store.now) root first (end - first))
         result }
 {
-    if walk::count_pages(store.words, root, first, end, 1, 1) != 0 {
+    if walk::count_pages(store.words, root, first, end, Bits::VALID) != 0 {
         return Err(Refusal::MappedAlready);
     }
     if !store::enough_free(store.fmarks, end - first) {

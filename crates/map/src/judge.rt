@@ -7,6 +7,7 @@ ghost use Rattle.map.specs.Reasons.{MapReason, MapReady};
 use address::{MAXVA, PhysicalAddress, VirtualAddress};
 use refusal::Refusal;
 use store::Store;
+use walk::Bits;
 
 const PAGES: u64 = 1 << 26;
 
@@ -79,7 +80,7 @@ pub fn judge_map(
     if end <= first {
         return Ok(());
     }
-    if walk::count_pages(store.words, r, first, end, 1, 1) != 0 {
+    if walk::count_pages(store.words, r, first, end, Bits::VALID) != 0 {
         return Err(Refusal::MappedAlready);
     }
     if !store::enough_free(

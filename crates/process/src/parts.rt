@@ -9,6 +9,7 @@ ghost use Rattle.process.specs.PartsReady.{JudgesParts, RestReady, SharedReady, 
 use address::{MAXVA, VirtualAddress};
 use refusal::Refusal;
 use store::Store;
+use walk::Bits;
 
 const PAGES: usize = 1 << 26;
 
@@ -31,7 +32,7 @@ fn judge_rest(store: &Store, root: usize, size: u64, top: usize) -> Result<(), R
         return Err(Refusal::NotMapped);
     }
     unmap::judge_leave(store, root, 0, n, true)?;
-    if walk::count_pages(store.words, root, n, top, 1, 1) != 0 {
+    if walk::count_pages(store.words, root, n, top, Bits::VALID) != 0 {
         return Err(Refusal::PageLeft);
     }
     Ok(())

@@ -7,8 +7,8 @@ ghost use Rattle.std.specs.Prelude.{◌≤◌, length, take};
 ghost use Rattle.store.specs.Store.{store_of};
 ghost use Rattle.program.specs.Lines.{Told, Step, Fed};
 
-use std::io;
 use std::io::Read;
+use std::io;
 
 // How many bytes of a line have come, and whether to read on.
 #[derive(Drop)]

@@ -7,6 +7,7 @@ ghost use Rattle.release.specs.FreeTree.{trees, zeroed, free_tree};
 
 use refusal::Refusal;
 use store::Store;
+use walk::Bits;
 
 const PAGES: usize = 1 << 26;
 
@@ -18,7 +19,7 @@ fn judge_free(store: &Store, root: u64) -> Result<(), Refusal>
         result }
 {
     well_formed::judge_root(store, root)?;
-    if walk::count_pages(store.words, root as usize, 0, PAGES, 1, 1) != 0 {
+    if walk::count_pages(store.words, root as usize, 0, PAGES, Bits::VALID) != 0 {
         return Err(Refusal::PageLeft);
     }
     Ok(())

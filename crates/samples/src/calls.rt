@@ -4,6 +4,7 @@ ghost use Rattle.std.specs.Prelude.{◌≤◌};
 use super::say::put_result;
 use address::{PhysicalAddress, VirtualAddress};
 use std::io;
+use walk::Bits;
 
 // The memory of a store.
 #[derive(Drop)]
@@ -43,7 +44,7 @@ pub fn growing(rt: &impl Print, name: &str, old: u64, new: u64) -> io::Result<()
     );
     print!(rt; "{name}")?;
     put_result(rt, grown)?;
-    let pages = walk::count_pages(&m.words, 0, 0, 67108864, 1, 1);
+    let pages = walk::count_pages(&m.words, 0, 0, 67108864, Bits::VALID);
     println!(rt; " pages {pages}")
 }
 

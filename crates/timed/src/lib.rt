@@ -18,7 +18,7 @@ pub extern "C" fn ronakvesh_timed_range(
     if 0x400_0000 < end {
         return 0;
     }
-    if walk::count_pages(words, root, first, end, 1, 1) != 0 {
+    if walk::count_pages(words, root, first, end, walk::Bits::VALID) != 0 {
         return 0;
     }
     walk::missing_tables(words, root, first, end) as u64

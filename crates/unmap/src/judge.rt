@@ -10,6 +10,7 @@ ghost use Rattle.unmap.specs.Unmap.{TooHigh, UnmapReason, UnmapReady};
 use address::VirtualAddress;
 use refusal::Refusal;
 use store::Store;
+use walk::Bits;
 
 const PAGES: u64 = 1 << 26;
 
@@ -17,6 +18,17 @@ const PAGES: u64 = 1 << 26;
 pub const FRAME_PART: u64 = 0xFFFF_FFFF_F800_0000;
 
 pub const WINDOW: u64 = 0x4000_0000;
+
+pub const IN_WINDOW: Bits = Bits {
+    mask: FRAME_PART,
+    value: WINDOW,
+};
+
+// All flags of a word are V alone.
+const V_ALONE: Bits = Bits {
+    mask: 1023,
+    value: 1,
+};
 
 // Whether, without freeing, one of the pages from first up to end has a pool frame.
 fn meets_pool(store: &Store, root: usize, first: usize, end: usize, freeing: bool) -> bool
@@ -27,7 +39,7 @@ fn meets_pool(store: &Store, root: usize, first: usize, end: usize, freeing: boo
     if freeing {
         return false;
     }
-    if walk::count_pages(store.words, root, first, end, FRAME_PART, WINDOW) == 0 {
+    if walk::count_pages(store.words, root, first, end, IN_WINDOW) == 0 {
         return false;
     }
     true
@@ -50,10 +62,10 @@ pub fn judge_leave(
     if meets_pool(store, root, first, end, freeing) {
         return Err(Refusal::HeldWindow);
     }
-    if walk::count_pages(store.words, root, first, end, 1, 1) < end - first {
+    if walk::count_pages(store.words, root, first, end, Bits::VALID) < end - first {
         return Err(Refusal::NotMapped);
     }
-    if walk::count_pages(store.words, root, first, end, 1023, 1) != 0 {
+    if walk::count_pages(store.words, root, first, end, V_ALONE) != 0 {
         return Err(Refusal::OnlyValid);
     }
     Ok(())

@@ -2,11 +2,13 @@
 // many tables are missing.
 #![tactic(auto)]
 
+mod bits;
 mod missing;
 mod ranges;
 mod runs;
 mod steps;
 
+pub use bits::Bits;
 pub use missing::missing_tables;
 pub use ranges::count_pages;
 pub use runs::run_of;

@@ -5,36 +5,37 @@ ghost use Rattle.well_formed.specs.Scan.{Over};
 ghost use Rattle.walk.specs.Missing.{entry_under};
 ghost use Rattle.walk.specs.Ranges.{alike, PagesAlike, page_under};
 
+use super::bits::Bits;
 use super::runs::run_of;
 use super::steps::{slot_in, slot_word};
 
-// How many words have the bits v under the mask.
-fn count_part(words: &[u64], mask: u64, v: u64) -> usize
-    ensures { result ≡ count_by (λ x. bit_and x mask == v) words.now }
+// How many words have these bits.
+fn count_part(words: &[u64], bits: Bits) -> usize
+    ensures { result ≡ count_by (λ x. bit_and x bits.mask == bits.value) words.now }
 {
     let mut n: usize = 0;
     for x in words {
-        if *x & mask == v {
+        if bits.matches(*x) {
             n += 1;
         }
     }
     n
 }
 
-// The same; for bit 0 alone the numbers are written out, for a shorter loop.
-fn count_bits(words: &[u64], mask: u64, v: u64) -> usize
-    ensures { result ≡ count_by (λ x. bit_and x mask == v) words.now }
+// The same; for V alone the numbers are written out, for a shorter loop.
+fn count_bits(words: &[u64], bits: Bits) -> usize
+    ensures { result ≡ count_by (λ x. bit_and x bits.mask == bits.value) words.now }
 {
-    if mask == 1 && v == 1 {
-        return count_part(words, 1, 1);
+    if bits.mask == 1 && bits.value == 1 {
+        return count_part(words, Bits::VALID);
     }
-    count_part(words, mask, v)
+    count_part(words, bits)
 }
 
 // How many pages from first up to end of one block do, where e is its entry; of several blocks, where it is 0.
-fn count_block(words: &[u64], e: u64, first: usize, end: usize, mask: u64, v: u64) -> usize
-    requires { (first ≤ end) × (0x4000_0000 ≤ e → end ≤ 512 * (first / 512) + 512) × (0 < v) }
-    ensures { Over (alike mask v (entry_under words.now e)) first end result }
+fn count_block(words: &[u64], e: u64, first: usize, end: usize, bits: Bits) -> usize
+    requires { (first ≤ end) × (0x4000_0000 ≤ e → end ≤ 512 * (first / 512) + 512) × (0 < bits.value) }
+    ensures { Over (alike bits.mask bits.value (entry_under words.now e)) first end result }
 {
     if e < 0x4000_0000 {
         return 0;
@@ -42,13 +43,13 @@ fn count_block(words: &[u64], e: u64, first: usize, end: usize, mask: u64, v: u6
     let from = 512 * ((e / 1024) as usize - 0x10_0000) + first % 512;
     let a = from.min(words.len());
     let b = (from + (end - first)).min(words.len());
-    count_bits(&words[a..b], mask, v)
+    count_bits(&words[a..b], bits)
 }
 
 // How many pages from first up to end of one group do, where top is the root's entry of it.
-fn count_group(words: &[u64], top: u64, first: usize, end: usize, mask: u64, v: u64) -> usize
-    requires { (first ≤ end) × (end ≤ 2 ^ 26) × (0 < v) }
-    ensures { Over (alike mask v (page_under words.now top)) first end result }
+fn count_group(words: &[u64], top: u64, first: usize, end: usize, bits: Bits) -> usize
+    requires { (first ≤ end) × (end ≤ 2 ^ 26) × (0 < bits.value) }
+    ensures { Over (alike bits.mask bits.value (page_under words.now top)) first end result }
 {
     if top == 0 {
         return 0;
@@ -60,16 +61,16 @@ fn count_group(words: &[u64], top: u64, first: usize, end: usize, mask: u64, v: 
         let m = slot_in(top, page / 512 % 512);
         let next = (512 * (page / 512 + run_of(words, m))).min(end);
         let e = slot_word(words, m);
-        n += count_block(words, e, page, next, mask, v);
+        n += count_block(words, e, page, next, bits);
         page = next;
     }
     n
 }
 
-// How many pages from first up to end of a root have a level-0 word with the bits v, which are not 0, under the mask.
-pub fn count_pages(words: &[u64], root: usize, first: usize, end: usize, mask: u64, v: u64) -> usize
-    requires { (root < 512) × (first ≤ end) × (end ≤ 2 ^ 26) × (0 < v) }
-    ensures { PagesAlike words.now root first end mask v result }
+// How many pages from first up to end of a root have a level-0 word with these bits, whose value is not 0.
+pub fn count_pages(words: &[u64], root: usize, first: usize, end: usize, bits: Bits) -> usize
+    requires { (root < 512) × (first ≤ end) × (end ≤ 2 ^ 26) × (0 < bits.value) }
+    ensures { PagesAlike words.now root first end bits.mask bits.value result }
 {
     let mut n: usize = 0;
     let mut page = first;
@@ -78,7 +79,7 @@ pub fn count_pages(words: &[u64], root: usize, first: usize, end: usize, mask: u
         let m = 512 * root + page / 512 / 512 + 2;
         let next = (262144 * (page / 512 / 512 + run_of(words, m))).min(end);
         let top = slot_word(words, m);
-        n += count_group(words, top, page, next, mask, v);
+        n += count_group(words, top, page, next, bits);
         page = next;
     }
     n

@@ -16,6 +16,6 @@ pub returns : goal.returns
 returns c =
     let a = c.args in
     let p = c.requires in
-    let read = listed_part a.mask a.v a.words.now c.min-a.result c.min-b.result (omega arith) (omega arith) in
-    block_words a.words.now a.e a.first a.end _ _ _ a.mask a.v _ p.2 p.0 (p.1 c.if-e-lt1073741824.false) c.if-e-lt1073741824.false refl c.min-a.ensures c.min-b.ensures
+    let read = listed_part a.bits.mask a.bits.value a.words.now c.min-a.result c.min-b.result (omega arith) (omega arith) in
+    block_words a.words.now a.e a.first a.end _ _ _ a.bits.mask a.bits.value _ p.2 p.0 (p.1 c.if-e-lt1073741824.false) c.if-e-lt1073741824.false refl c.min-a.ensures c.min-b.ensures
     (rw (sym c.count_bits.ensures) at read)

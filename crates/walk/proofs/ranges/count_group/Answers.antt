@@ -48,7 +48,7 @@ loop-page-preserved c =
     let next = next_block c.loop-page.page a.end _ _ c.loop-page-test.true run.some c.min-next.ensures in (
       le_trans l.0 next.0,
       next.1,
-      over_next (entry_under a.words.now e.result) (page_under a.words.now a.top) a.mask a.v a.first _ _ _ _ l.0 next.0
+      over_next (entry_under a.words.now e.result) (page_under a.words.now a.top) a.bits.mask a.bits.value a.first _ _ _ _ l.0 next.0
           (page_in_block a.words.now a.top _ _ _ _ _ c.slot_in-m.ensures run e.ensures next.2) l.2 c.count_block-n.ensures,
     )
 

@@ -30,7 +30,7 @@ loop-page-preserved c =
     let run = c.run_of in (
       search rules,
       search rules,
-      over_next (page_under a.words.now top.result) (entry_in a.words.now a.root 2) a.mask a.v a.first _ _ _ _ l.0 (omega (arith, run.ensures.some))
+      over_next (page_under a.words.now top.result) (entry_in a.words.now a.root 2) a.bits.mask a.bits.value a.first _ _ _ _ l.0 (omega (arith, run.ensures.some))
           (page_in_group a.words.now a.root _ _ _ _ run.ensures top.ensures (omega arith)) l.2 c.count_group-n.ensures,
     )
 

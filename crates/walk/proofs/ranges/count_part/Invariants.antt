@@ -6,4 +6,4 @@ use Rattle.std.specs.List.{count_by}
 use Rattle.walk.proofs.ranges.count_part.Given as goal
 
 abbrev pub invariant-loop-x : goal.invariant-loop-x
-invariant-loop-x l = l.n ≡ count_by (λ x. bit_and x l.mask == l.v) (take l.x-index l.words)
+invariant-loop-x l = l.n ≡ count_by (λ x. bit_and x l.bits.mask == l.bits.value) (take l.x-index l.words)
