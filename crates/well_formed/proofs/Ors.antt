@@ -1,16 +1,14 @@
--- The or of the words, and of their flags. Assumes nothing.
-use mathlib.Core.Path.{◌≡◌, refl, subst, ap, ◌∙◌}
-use mathlib.Core.Logic.{inl, inr, ⊎_elim}
+-- The or of the words, and of their flags, with one word more. Assumes nothing.
+use mathlib.Core.Path.{◌≡◌, ap, ◌∙◌}
 use mathlib.Core.List.{List}
-use Prim.Native.Nat.{ℕ, ◌+◌, ◌-◌, ◌/◌, ◌%◌, ◌^◌, ◌≤◌, ◌<◌}
-use native.Mathlib.Nat.{le_refl, eq-zero-or-pos}
+use Prim.Native.Nat.{ℕ, ◌+◌, ◌/◌, ◌%◌, ◌^◌, ◌≤◌, ◌<◌}
+use native.Mathlib.Nat.{le_refl}
 use native.Mathlib.Omega.{arith}
-use lib.Pow.{pow_pos}
 use lib.Bits.{bit_or, or_add_and, and_le_l, and_le_r, or_mod, or_shr, or_lt}
 use Rattle.address.specs.Field.{bit}
 use Rattle.store.specs.Store.{word}
 use Rattle.well_formed.specs.Scan.{Zeros, OrOf, OddOrZero, FlagOf, FlagsOf}
-use Rattle.well_formed.proofs.Parts.{each_none, each_part, each_more}
+use Rattle.well_formed.proofs.Parts.{each_part, each_more}
 
 -- an or is above both sides, and has their bits
 module _ (x y : ℕ) where
@@ -25,9 +23,6 @@ or_clear : (j x y : ℕ) → bit j (bit_or x y) ≡ 0 → (bit j x ≡ 0) × (bi
 or_clear j x y e = (omega (arith, or_bit x y j, (or_above (bit j x) (bit j y)).0), omega (arith, or_bit x y j, (or_above (bit j x) (bit j y)).1))
 
 module _ (ws : List ℕ) (a : ℕ) where
-  pub or_none : OrOf ws a a 0
-  or_none = record { above = each_none _ a; bits = λ j _. each_none _ a; within = λ j _. pow_pos j }
-
   pub or_more : (i r : ℕ) → a ≤ i → OrOf ws a i r → OrOf ws a (i + 1) (bit_or r (word ws i))
   or_more i r l o =
       record {
@@ -36,14 +31,8 @@ module _ (ws : List ℕ) (a : ℕ) where
         within = λ j z. or_lt j r (word ws i) (o.within j (each_part (λ (k : ℕ). word ws k < 2 ^ j) a a i (i + 1) (le_refl a) (omega arith) z)) (z i l (omega arith));
       }
 
-  pub or_done : (i e r : ℕ) → i ≤ e → e ≤ i → OrOf ws a i r → OrOf ws a e r
-  or_done i e r p q o = let z : i ≡ e = omega arith in subst (λ (k : ℕ). OrOf ws a k r) z o
-
   pub or_zero : (e r : ℕ) → OrOf ws a e r → Zeros ws a e → r ≡ 0
   or_zero e r o z = omega (arith, o.within 0 (λ k h m. omega (arith, z k h m)))
-
-  pub flags_none : FlagsOf ws a a 0
-  flags_none = record { odd = λ _. each_none _ a; even = λ _. refl }
 
   pub flags_more : (i r f : ℕ) → a ≤ i → FlagsOf ws a i r → FlagOf (word ws i) f → FlagsOf ws a (i + 1) (bit_or r f)
   flags_more i r f l p q =
@@ -51,22 +40,3 @@ module _ (ws : List ℕ) (a : ℕ) where
         odd = λ h. each_more (λ (k : ℕ). OddOrZero (word ws k)) a i (p.odd (omega (arith, or_mod r f 1, (or_above (r % 2) (f % 2)).0))) (q.odd (omega (arith, or_mod r f 1, (or_above (r % 2) (f % 2)).1)));
         even = λ z. omega (arith, or_mod r f 1, or_add_and (r % 2) (f % 2), p.even (each_part (λ (k : ℕ). OddOrZero (word ws k)) a a i (i + 1) (le_refl a) (omega arith) z), q.even (z i l (omega arith)));
       }
-
-  pub flags_done : (i e r : ℕ) → i ≤ e → e ≤ i → FlagsOf ws a i r → FlagsOf ws a e r
-  flags_done i e r p q o = let z : i ≡ e = omega arith in subst (λ (k : ℕ). FlagsOf ws a k r) z o
-
--- the flag of a word x is x where that is 0, and else one more, which is even exactly where x is odd
-next_even : (x r : ℕ) → r ≡ 1 + x → (r % 2 ≡ 0 → x % 2 ≡ 1) × (x % 2 ≡ 1 → r % 2 ≡ 0)
-next_even x r e = (λ z. omega arith, λ o. omega arith)
-
-pub flag_right : (x r : ℕ) → x < 2 ^ 54 → r ≡ (x + (2 ^ 54 - 1)) / 2 ^ 54 + x → FlagOf x r
-flag_right x r h e = ⊎_elim none some (eq-zero-or-pos x)
-  where
-    none : x ≡ 0 → FlagOf x r
-    none z = let q : (x + (2 ^ 54 - 1)) / 2 ^ 54 ≡ 0 = omega arith in let n : r ≡ 0 = omega arith in record { odd = λ _. inl z; even = λ _. ap (λ (k : ℕ). k % 2) n }
-
-    some : 0 < x → FlagOf x r
-    some p =
-        let q : (x + (2 ^ 54 - 1)) / 2 ^ 54 ≡ 1 = omega arith in
-        let m = next_even x r (e ∙ ap (λ (k : ℕ). k + x) q) in
-        record { odd = λ z. inr (m.0 z); even = λ o. ⊎_elim (λ z. absurd (omega arith)) m.1 o }

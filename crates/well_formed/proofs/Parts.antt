@@ -1,4 +1,4 @@
--- Claims and counts over a part, from a up to e: none, one more, joined, and the whole of them. Assumes nothing.
+-- Claims and counts over a part, from a up to e: one more, joined, moved, and the whole of them. Assumes nothing.
 use mathlib.Core.Path.{◌≡◌, refl, sym, subst}
 use mathlib.Core.Logic.{by_cases}
 use Prim.Native.Nat.{ℕ, zero, suc, ◌+◌, ◌-◌, ◌≤◌, ◌<◌, zero-le}
@@ -10,9 +10,6 @@ use Rattle.store.proofs.Sums.{sum_cong, sum_split, sum_zero}
 use Rattle.well_formed.specs.Scan.{Each, Over}
 
 module _ (P : ℕ → Type 0) where
-  pub each_none : (a : ℕ) → Each P a a
-  each_none a k h l = absurd (omega arith)
-
   pub each_part : (a b c e : ℕ) → a ≤ b → c ≤ e → Each P a e → Each P b c
   each_part a b c e p q all k h l = all k (omega arith) (omega arith)
 
@@ -21,10 +18,6 @@ module _ (P : ℕ → Type 0) where
 
   pub each_more : (a i : ℕ) → Each P a i → P i → Each P a (i + 1)
   each_more a i all here = each_join a i (i + 1) all (λ k h l. subst P (omega arith) here)
-
-  -- a scan that came to the end
-  pub each_done : (a i e : ℕ) → i ≤ e → e ≤ i → Each P a i → Each P a e
-  each_done a i e p q all k h l = all k h (omega arith)
 
 module _ (g : ℕ → ℕ) where
   pub over_none : (a : ℕ) → Over g a a 0

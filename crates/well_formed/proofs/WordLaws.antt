@@ -45,9 +45,6 @@ module _ (ws : List ℕ) (a e : ℕ) (l : a ≤ e) (x : ℕ) (o : OrOf ws a e x)
   leaves_high h = λ all. omega (arith, o.within 54 (λ k p q. (all k p q).clear))
 
   module _ (y : ℕ) (f : FlagsOf ws a e y) where
-    pub leaves_even : (y % 2 ≡ 0 → ⊥) → Finds (Shapes ws a e) (windowed ws) a e None
-    leaves_even n = λ all. n (f.even (λ k p q. (all k p q).valid))
-
     pub leaves_count : x < 2 ^ 54 → y % 2 ≡ 0 → (n : ℕ) → Over (windowed ws) a e n → Finds (Shapes ws a e) (windowed ws) a e (Some n)
     leaves_count s v n x = (λ k p q. record { valid = f.odd v k p q; clear = omega (arith, o.above k p q) }, x)
 

@@ -7,17 +7,15 @@ ghost use Rattle.well_formed.specs.Scan.{Pointers, Root, PointsTo};
 
 use super::scan;
 
-// The word that points to table 0.
-const FIRST: u64 = 0x4000_0001;
+// The word that points to table 0; the next table's is 1024 more.
+const POINTER: u64 = 0x4000_0001;
 
 // The table that x points to, as its number alone has it, or None where x is no pointer.
 pub fn pointed_table(x: u64) -> Option<usize>
     ensures { PointsTo x result }
 {
-    if x < FIRST || (x - FIRST) % 1024 != 0 {
-        return None;
-    }
-    Some(((x - FIRST) / 1024) as usize)
+    let d = x.checked_sub(POINTER)?;
+    (d % 1024 == 0).then_some((d / 1024) as usize)
 }
 
 // Whether word w is 0, or points to a table whose mark names w.
