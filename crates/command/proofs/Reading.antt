@@ -17,7 +17,8 @@ use Rattle.std.specs.Slice.Iter.{split_steps, split_rest, split_done, split_call
 use Rattle.std.proofs.lemmas.Iterator.{YieldsList}
 use Rattle.std.proofs.lemmas.Iterator.Consumers.{YieldsList-turn, YieldsList-end}
 use Rattle.std.proofs.lemmas.Iterator.Splits.{YieldsList-from_slice_split}
-use Rattle.command.specs.Command.{parsed_of, pieces_of, all_numbers, values, told, command, command_of}
+use Rattle.command.specs.declared.command.Command.TheVariants.{Map}
+use Rattle.command.specs.Command.{parsed_of, pieces_of, all_numbers, values, told, map_name, command, command_of}
 
 -- an item that comes is the list's first, and the others are to come
 pub first_item : {S A B : Type 0} {steps : S → Option A → S → Type 0} {v : A → B} (all : List B) {s t : S} {r : Option A} (x : A) → YieldsList steps v s all → r ≡ Some x → steps s r t
@@ -47,6 +48,16 @@ unfolding all_numbers values
 length-values [] e = refl
 length-values (Some v ∷ ps) e = ap suc (length-values ps e)
 length-values (None ∷ ps) e = cc
+
+-- the numbers of a map
+pub told_map : (name ns : List ℕ) → name ≡ map_name → length ns ≡ 5 → Some (Map (get_or ns 0 0) (get_or ns 1 0) (get_or ns 2 0) (get_or ns 3 0) (get_or ns 4 0)) ≡ told name ns
+told_map name [] e l = absurd (omega arith)
+told_map name (a ∷ []) e l = absurd (omega arith)
+told_map name (a ∷ b ∷ []) e l = absurd (omega arith)
+told_map name (a ∷ b ∷ c ∷ []) e l = absurd (omega arith)
+told_map name (a ∷ b ∷ c ∷ d ∷ []) e l = absurd (omega arith)
+told_map name (root ∷ va ∷ pa ∷ size ∷ perm ∷ []) e l = rw e refl
+told_map name (a ∷ b ∷ c ∷ d ∷ e ∷ f ∷ ns) g l = absurd (omega arith)
 
 -- no command has more than five numbers
 told_many : (name ns : List ℕ) → 5 < length ns → told name ns ≡ None

@@ -17,11 +17,11 @@ pub enum Command {
 fn command_named(name: &[u8], numbers: &[u64]) -> Option<Command>
     ensures { result ≡ told name.now numbers.now }
 {
-    match numbers {
-        [] if name == b"new".as_slice() => Some(Command::New),
-        [root] if name == b"dump".as_slice() => Some(Command::Dump(*root)),
-        [root, va] if name == b"find".as_slice() => Some(Command::Find(*root, *va)),
-        [root, va, pa, size, perm] if name == b"map".as_slice() => {
+    match (name, numbers) {
+        (b"new", []) => Some(Command::New),
+        (b"dump", [root]) => Some(Command::Dump(*root)),
+        (b"find", [root, va]) => Some(Command::Find(*root, *va)),
+        (b"map", [root, va, pa, size, perm]) => {
             Some(Command::Map(*root, *va, *pa, *size, *perm))
         }
         _ => None,

@@ -1,12 +1,12 @@
 -- `command::number::read_number` meets its contract. Assumes nothing.
-use mathlib.Core.Path.{sym, ◌∙◌}
+use mathlib.Core.Path.{◌∙◌}
 use native.Mathlib.Omega.{arith}
-use borrow.Author.Tests.{eqb-false}
+use Rattle.std.proofs.lemmas.Bool.Decides.{nat_tests}
 use Rattle.command.proofs.Parsing.{begins, other_byte, too_large, again, ends}
 use Rattle.command.proofs.number.read_number.Goals as goal
 
 pub loop-b-init : goal.loop-b-init
-loop-b-init c = begins c.args.s.now (omega (arith, eqb-false _ 0 (sym c.if-is_empty.ensures)))
+loop-b-init c = begins c.args.s.now (grind (arith, nat_tests))
 
 pub returns-then-not-is_ascii_digit : goal.returns-then-not-is_ascii_digit
 returns-then-not-is_ascii_digit c = other_byte c.loop-b.invariant c.loop-b-test.true c.if-not-is_ascii_digit.ensures.cases
