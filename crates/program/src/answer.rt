@@ -16,7 +16,7 @@ fn answer_command(
     tmarks: &mut [u32],
     bytes: &[u8],
     fmarks: &[u32],
-    c: Command,
+    c: Option<Command>,
     out: &mut [u8],
 ) -> usize
     ensures { Answered
@@ -24,8 +24,12 @@ fn answer_command(
         (store_of words.new tmarks.new bytes.now fmarks.now) }
 {
     match c {
-        Command::New => text::put_answer(out, 0, map::uvmcreate(words, tmarks, bytes, fmarks)),
-        Command::Map(root, va, pa, size, perm) => text::put_answer(
+        Some(Command::New) => text::put_answer(
+            out,
+            0,
+            map::uvmcreate(words, tmarks, bytes, fmarks),
+        ),
+        Some(Command::Map(root, va, pa, size, perm)) => text::put_answer(
             out,
             0,
             map::map(
@@ -40,13 +44,13 @@ fn answer_command(
                 perm,
             ),
         ),
-        Command::Find(root, va) => text::put_answer(
+        Some(Command::Find(root, va)) => text::put_answer(
             out,
             0,
             translate::pgt_translate(words, tmarks, bytes, fmarks, root, VirtualAddress(va)),
         ),
-        Command::Dump(root) => dump::dump(words, tmarks, bytes, fmarks, root, out),
-        Command::Other => text::put_answer(out, 0, Answer::Refused(99)),
+        Some(Command::Dump(root)) => dump::dump(words, tmarks, bytes, fmarks, root, out),
+        None => text::put_answer(out, 0, Answer::Refused(99)),
     }
 }
 
