@@ -25,9 +25,10 @@ said (Refused n) = line_of (110 ∷ 111 ∷ 32 ∷ []) n
 unfoldable pub row_text : ℕ → ℕ → ℕ → List ℕ
 row_text level index word = decimal level ++ (32 ∷ (decimal index ++ (32 ∷ (decimal word ++ (10 ∷ [])))))
 
--- the first r bytes of o' are the first `at` of o and then the text, as far as o has room
+-- o' is as long as o, and its first r bytes are the first `at` of o and then the text, as far as there is room
 pub record Wrote (o : List ℕ) (at : ℕ) (text o' : List ℕ) (r : ℕ) : Type 0 where
   pub within : r ≤ length o
+  pub room : length o' ≡ length o
   pub bytes : take r o' ≡ take (length o) (take at o ++ text)
 
 -- the same for a line of a word and a number, and for the line of an answer; a number has at most 20 digits

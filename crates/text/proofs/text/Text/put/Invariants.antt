@@ -1,0 +1,10 @@
+-- The bytes so far are written.
+use Rattle.std.proofs.Common.{◌≡◌, take}
+use Rattle.text.specs.Text.{Wrote}
+use Rattle.text.proofs.text.Text.put.Given as goal
+
+abbrev pub invariant-loop-b : goal.invariant-loop-b
+invariant-loop-b l = record {
+  same : l.self.out.ghost_name ≡ l.initial.self.out.ghost_name;
+  wrote : Wrote l.initial.self.out.now l.initial.self.at (take l.b-index l.bytes) l.self.out.now l.self.at;
+}
