@@ -1,13 +1,13 @@
 -- The dump of a root: its tree as lines, in document 01's order. It changes nothing.
-use Rattle.std.specs.Prelude.{◌≡◌, List, [], ◌∷◌, ◌++◌, ℕ, zero, suc, ◌+◌, ◌*◌, ◌^◌, ◌≤◌, ◌<◌, length}
+use Rattle.std.specs.Prelude.{◌≡◌, List, [], ◌∷◌, ◌++◌, ℕ, zero, suc, ◌+◌, ◌*◌, ◌≤◌, length}
 use Rattle.store.specs.Store.{Store, word}
 use Rattle.store.specs.Walk.{table_of}
 use Rattle.store.specs.Outcome.{Outcome}
 use Rattle.store.specs.declared.Answer.{Answer}
 use Rattle.store.specs.declared.Answer.TheVariants.{Refused, Done}
 use Rattle.well_formed.specs.Root.{RootReason}
+use Rattle.text.specs.declared.text.Text.{Text}
 use Rattle.text.specs.Text.{row_text, said, Wrote}
-use Rattle.dump.specs.declared.listing.Listing.{Listing}
 
 -- a line: level, index, word
 pub record Row : Type 0 where
@@ -59,20 +59,15 @@ unfoldable pub listed : Store → ℕ → Answer → List ℕ
 listed s root (Done v) = rows_text (root_rows s root)
 listed s root (Refused n) = []
 
--- rows have gone into o behind what the listing l had, and are counted
-pub record Listed (o : List ℕ) (l : Listing) (rows : List Row) (o' : List ℕ) (r : Listing) : Type 0 where
-  pub wrote : Wrote o l.at (rows_text rows) o' r.at
-  pub count : r.count ≡ l.count + length rows
+-- the rows stand in t' behind the text of t, and are counted on from n
+pub record Listed (t : Text) (n : ℕ) (rows : List Row) (t' : Text) (n' : ℕ) : Type 0 where
+  pub wrote : Wrote t.out.now t.at (rows_text rows) t'.out.now t'.at
+  pub count : n' ≡ n + length rows
   pub short : length (rows_text rows) ≤ 27 * length rows
 
--- what a listing asks: it stands within o, and its count has room for these rows
-pub record Room (o : List ℕ) (l : Listing) (rows : List Row) : Type 0 where
-  pub within : l.at ≤ length o
-  pub count : l.count + length rows < 2 ^ 64
-
--- the call as a whole: what it answers, and the text that it leaves in o, which is short
-pub record Dumped (s : Store) (root : ℕ) (o o' : List ℕ) (r : ℕ) : Type 0 where
+-- the call as a whole: what it answers, and the text that it leaves in t' behind that of t, which is short
+pub record Dumped (s : Store) (root : ℕ) (t t' : Text) : Type 0 where
   pub answer : Answer
   pub holds : Dump s root answer
-  pub wrote : Wrote o 0 (listed s root answer ++ said answer) o' r
+  pub wrote : Wrote t.out.now t.at (listed s root answer ++ said answer) t'.out.now t'.at
   pub short : length (listed s root answer ++ said answer) ≤ 13824 * length s.tmarks + 24

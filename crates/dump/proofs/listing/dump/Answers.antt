@@ -10,29 +10,31 @@ use Rattle.text.proofs.Writing.{wrote_then}
 use Rattle.dump.proofs.Bound.{root_few}
 use Rattle.dump.proofs.listing.dump.Goals as goal
 
-pub returns-then-no-ne0 : goal.returns-then-no-ne0
+pub returns-then-no-ne0-clause-dumped : goal.returns-then-no-ne0-clause-dumped
 unfolding listed
-returns-then-no-ne0 c = record {
-  answer = Refused c.judge_root-no.result;
-  holds = (c.judge_root-no.ensures.reason c.if-no-ne0.true, refl);
-  wrote = c.put_answer.ensures.wrote;
-  short = omega (arith, c.put_answer.ensures.short);
-}
+returns-then-no-ne0-clause-dumped c =
+    let w = c.put_answer.ensures.wrote in
+    record { answer = Refused c.judge_root-no.result; holds = (c.judge_root-no.ensures.reason c.if-no-ne0.true, refl); wrote = w.wrote; short = omega (arith, w.short) }
 
-pub list_table-end-requires : goal.list_table-end-requires
-list_table-end-requires c =
+pub list_table-count-requires-clause-t_bound : goal.list_table-count-requires-clause-t_bound
+list_table-count-requires-clause-t_bound c =
     let r = c.judge_root-no.ensures.ready c.if-no-ne0.false in
-    record { t_bound = (omega (arith, root_in _ _ r.sized r.is_root), omega arith); room = record { within = omega arith; count = omega (arith, root_few _ _ r.sized r.formed r.is_root, r.sized.tables_to) } }
+    (omega (arith, root_in _ _ r.sized r.is_root), omega arith)
 
-pub returns : goal.returns
+pub list_table-count-requires-clause-room : goal.list_table-count-requires-clause-room
+list_table-count-requires-clause-room c =
+    let r = c.judge_root-no.ensures.ready c.if-no-ne0.false in
+    omega (arith, root_few _ _ r.sized r.formed r.is_root, r.sized.tables_to)
+
+pub returns-clause-dumped : goal.returns-clause-dumped
 unfolding listed
-returns c =
+returns-clause-dumped c =
     let r = c.judge_root-no.ensures.ready c.if-no-ne0.false in
-    let l = c.list_table-end.ensures in
-    let a = c.put_answer-2.ensures in
+    let l = c.list_table-count.ensures.listed in
+    let w = c.put_answer-2.ensures.wrote in
     record {
-      answer = Done c.list_table-end.result.count;
+      answer = Done c.list_table-count.result;
       holds = (root_clear _ _ r, (omega (arith, l.count), refl));
-      wrote = wrote_then l.wrote c.list_table-end.auto.out a.wrote;
-      short = simp length-append (omega (arith, l.short, a.short, root_few _ _ r.sized r.formed r.is_root));
+      wrote = wrote_then l.wrote w.wrote;
+      short = simp length-append (omega (arith, l.short, w.short, root_few _ _ r.sized r.formed r.is_root));
     }
