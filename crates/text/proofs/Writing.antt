@@ -1,12 +1,12 @@
 -- Text in a lent slice: nothing, a byte, one text after another, and text that has room. Assumes nothing.
 use mathlib.Core.Path.{◌≡◌, refl, sym, ◌∙◌, ap}
 use mathlib.Core.List.{List, [], ◌∷◌, ◌++◌, append_assoc, append-nil}
-use Prim.Native.Nat.{ℕ, zero, suc, ◌+◌, ◌≤◌, ◌<◌}
-use native.Mathlib.Numerals.{add-one}
+use Prim.Native.Nat.{ℕ, zero, suc, ◌≤◌}
 use native.Mathlib.Omega.{arith}
-use lib.ListN.{length, take, set, length-set, length-take, length-append}
-use lib.Seq.{take_all, take_at, take-suc-set}
-use Rattle.text.specs.Text.{Wrote}
+use lib.ListN.{length, take, length-take}
+use lib.Seq.{take_all}
+use Rattle.text.specs.declared.text.Text.{Text}
+use Rattle.text.specs.Text.{written, Wrote}
 
 -- what is cut off may be cut off later
 pub clip : (n : ℕ) (x u : List ℕ) → take n (take n x ++ u) ≡ take n (x ++ u)
@@ -14,30 +14,16 @@ clip zero x u = refl
 clip (suc n) [] u = refl
 clip (suc n) (y ∷ x) u = ap (λ (l : List ℕ). y ∷ l) (clip n x u)
 
-module _ {o : List ℕ} {at : ℕ} (l : at ≤ length o) where
-  pub wrote_none : Wrote o at [] o at
-  wrote_none = record { within = l; room = refl; bytes = sym (ap (take (length o)) (append-nil (take at o)) ∙ take_all (length o) (take at o) (simp length-take (omega arith))) }
-
-  pub wrote_in : {b : ℕ} → at < length o → Wrote o at (b ∷ []) (set o at b) (at + 1)
-  wrote_in {b} h = record {
-    within = omega arith;
-    room = simp length-set;
-    bytes = rw add-one (take-suc-set o at b h ∙ sym (take_all (length o) (take at o ++ (b ∷ [])) (simp (length-append, length-take) (omega arith))));
-  }
-
-  pub wrote_full : {b : ℕ} → length o ≤ at → Wrote o at (b ∷ []) o at
-  wrote_full {b} h =
-      let e : length (take at o) ≡ length o = simp length-take (omega arith) in
-      record { within = l; room = refl; bytes = sym (take_at (take at o) (b ∷ []) (length o) e) }
+pub wrote_none : (t : Text) → Wrote t [] t
+wrote_none t = record { room = refl; bytes = sym (ap (take (length t.out.now)) (append-nil (written t)) ∙ take_all (length t.out.now) (written t) (simp length-take (omega arith))) }
 
 -- one text after another
-pub wrote_then : {o o₁ o₂ t u : List ℕ} {at b c : ℕ} → Wrote o at t o₁ b → Wrote o₁ b u o₂ c → Wrote o at (t ++ u) o₂ c
-wrote_then {o} {o₁} {o₂} {t} {u} {at} {b} {c} w v = record {
-  within = omega (arith, v.within, w.room);
+pub wrote_then : {t₀ t₁ t₂ : Text} {x y : List ℕ} → Wrote t₀ x t₁ → Wrote t₁ y t₂ → Wrote t₀ (x ++ y) t₂
+wrote_then {t₀} {x = x} {y} w v = record {
   room = v.room ∙ w.room;
-  bytes = v.bytes ∙ rw (w.room, w.bytes) (clip (length o) (take at o ++ t) u ∙ ap (take (length o)) (append_assoc (take at o) t u));
+  bytes = v.bytes ∙ rw (w.room, w.bytes) (clip (length t₀.out.now) (written t₀ ++ x) y ∙ ap (take (length t₀.out.now)) (append_assoc (written t₀) x y));
 }
 
 -- at the start of a slice that has room for it, the text stands whole
-pub wrote_whole : {o o' t : List ℕ} {r : ℕ} → Wrote o 0 t o' r → length t ≤ length o → take r o' ≡ t
-wrote_whole {o} {o'} {t} w l = w.bytes ∙ take_all (length o) t l
+pub wrote_whole : {t t' : Text} {x : List ℕ} → Wrote t x t' → t.at ≡ 0 → length x ≤ length t.out.now → written t' ≡ x
+wrote_whole {t} {t'} {x} w e l = w.bytes ∙ rw e (take_all (length t.out.now) x l)

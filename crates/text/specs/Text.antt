@@ -1,5 +1,6 @@
 -- What the program prints: numbers in decimal, the lines of answers and of the dump; and how text goes into a lent slice.
 use Rattle.std.specs.Prelude.{◌≡◌, cond, List, [], ◌∷◌, ◌++◌, ℕ, zero, suc, ◌+◌, ◌/◌, ◌%◌, ◌≤◌, ltb, length, take}
+use Rattle.text.specs.declared.text.Text.{Text}
 use Rattle.store.specs.declared.Answer.{Answer}
 use Rattle.store.specs.declared.Answer.TheVariants.{Refused, Done}
 
@@ -25,22 +26,25 @@ said (Refused n) = line_of (110 ∷ 111 ∷ 32 ∷ []) n
 unfoldable pub row_text : ℕ → ℕ → ℕ → List ℕ
 row_text level index word = decimal level ++ (32 ∷ (decimal index ++ (32 ∷ (decimal word ++ (10 ∷ [])))))
 
--- o' is as long as o, and its first r bytes are the first `at` of o and then the text, as far as there is room
-pub record Wrote (o : List ℕ) (at : ℕ) (text o' : List ℕ) (r : ℕ) : Type 0 where
-  pub within : r ≤ length o
-  pub room : length o' ≡ length o
-  pub bytes : take r o' ≡ take (length o) (take at o ++ text)
+-- the text so far
+abbrev pub written : Text → List ℕ
+written t = take t.at t.out.now
+
+-- the slice of t' is as long as that of t, and the text in it is that of t with this text behind it, as far as there is room
+pub record Wrote (t : Text) (text : List ℕ) (t' : Text) : Type 0 where
+  pub room : length t'.out.now ≡ length t.out.now
+  pub bytes : written t' ≡ take (length t.out.now) (written t ++ text)
 
 -- the same for a line of a word and a number, and for the line of an answer; a number has at most 20 digits
-pub record LineWrote (o : List ℕ) (at : ℕ) (word : List ℕ) (n : ℕ) (o' : List ℕ) (r : ℕ) : Type 0 where
-  pub wrote : Wrote o at (line_of word n) o' r
+pub record LineWrote (t : Text) (word : List ℕ) (n : ℕ) (t' : Text) : Type 0 where
+  pub wrote : Wrote t (line_of word n) t'
   pub short : length (line_of word n) ≤ length word + 21
 
-pub record SaidWrote (o : List ℕ) (at : ℕ) (a : Answer) (o' : List ℕ) (r : ℕ) : Type 0 where
-  pub wrote : Wrote o at (said a) o' r
+pub record SaidWrote (t : Text) (a : Answer) (t' : Text) : Type 0 where
+  pub wrote : Wrote t (said a) t'
   pub short : length (said a) ≤ 24
 
 -- the same for a line of the dump, which has at most 27 bytes
-pub record RowWrote (o : List ℕ) (at level index word : ℕ) (o' : List ℕ) (r : ℕ) : Type 0 where
-  pub wrote : Wrote o at (row_text level index word) o' r
+pub record RowWrote (t : Text) (level index word : ℕ) (t' : Text) : Type 0 where
+  pub wrote : Wrote t (row_text level index word) t'
   pub short : length (row_text level index word) ≤ 27

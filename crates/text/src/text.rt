@@ -1,6 +1,5 @@
 // Text goes into a lent slice: bytes, numbers in decimal, the lines of the program. What finds no room is left out.
-ghost use Rattle.std.specs.Prelude.{◌≡◌, ◌<◌, ◌≤◌, [], ◌∷◌, length, take};
-ghost use Rattle.text.specs.Text.{Wrote, decimal, LineWrote, SaidWrote, RowWrote};
+ghost use Rattle.std.specs.Prelude.{◌≡◌, ◌<◌, ◌≤◌, [], ◌∷◌, length};
 
 use store::Answer;
 
@@ -13,6 +12,8 @@ pub struct Text<'a> {
 }
 
 impl<'a> Text<'a> {
+    ghost use Rattle.text.specs.Text.{written, Wrote, decimal, LineWrote, SaidWrote, RowWrote};
+
     // No text so far.
     pub fn new(out: &'a mut [u8]) -> Text<'a>
         ensures same_reference { result.out.ghost_name ≡ out.entry.ghost_name }
@@ -24,7 +25,7 @@ impl<'a> Text<'a> {
 
     // The text so far.
     pub fn as_slice(&self) -> &[u8]
-        ensures { result.now ≡ take self.now.at self.now.out.now }
+        ensures { result.now ≡ written self.now }
     {
         &self.out[..self.at]
     }
@@ -41,7 +42,7 @@ impl<'a> Text<'a> {
     // One byte.
     pub fn put_byte(&mut self, b: u8)
         ensures same_reference { self.new.out.ghost_name ≡ self.old.out.ghost_name }
-        ensures wrote { Wrote self.old.out.now self.old.at (b ∷ []) self.new.out.now self.new.at }
+        ensures wrote { Wrote self.old (b ∷ []) self.new }
     {
         if self.at < self.out.len() {
             self.out[self.at] = b;
@@ -52,7 +53,7 @@ impl<'a> Text<'a> {
     // Bytes.
     fn put(&mut self, bytes: &[u8])
         ensures same_reference { self.new.out.ghost_name ≡ self.old.out.ghost_name }
-        ensures wrote { Wrote self.old.out.now self.old.at bytes.now self.new.out.now self.new.at }
+        ensures wrote { Wrote self.old bytes.now self.new }
     {
         for b in bytes {
             self.put_byte(*b);
@@ -62,7 +63,7 @@ impl<'a> Text<'a> {
     // A number.
     fn put_number(&mut self, n: u64)
         ensures same_reference { self.new.out.ghost_name ≡ self.old.out.ghost_name }
-        ensures wrote { Wrote self.old.out.now self.old.at (decimal n) self.new.out.now self.new.at }
+        ensures wrote { Wrote self.old (decimal n) self.new }
     {
         let mut digits = [0u8; 20];
         let count = io::decimal(n, &mut digits);
@@ -73,7 +74,7 @@ impl<'a> Text<'a> {
     pub fn put_row(&mut self, level: u64, index: u64, word: u64)
         requires level_bound { (level < 10) × (index < 1000) }
         ensures same_reference { self.new.out.ghost_name ≡ self.old.out.ghost_name }
-        ensures wrote { RowWrote self.old.out.now self.old.at level index word self.new.out.now self.new.at }
+        ensures wrote { RowWrote self.old level index word self.new }
     {
         self.put_number(level);
         self.put_byte(b' ');
@@ -86,7 +87,7 @@ impl<'a> Text<'a> {
     // A line of a word and a number.
     fn put_line(&mut self, word: &[u8], n: u64)
         ensures same_reference { self.new.out.ghost_name ≡ self.old.out.ghost_name }
-        ensures wrote { LineWrote self.old.out.now self.old.at word.now n self.new.out.now self.new.at }
+        ensures wrote { LineWrote self.old word.now n self.new }
     {
         self.put(word);
         self.put_number(n);
@@ -96,7 +97,7 @@ impl<'a> Text<'a> {
     // The line of an answer.
     pub fn put_answer(&mut self, a: Answer)
         ensures same_reference { self.new.out.ghost_name ≡ self.old.out.ghost_name }
-        ensures wrote { SaidWrote self.old.out.now self.old.at a self.new.out.now self.new.at }
+        ensures wrote { SaidWrote self.old a self.new }
     {
         match a {
             Answer::Done(v) => self.put_line(b"ok ", v),

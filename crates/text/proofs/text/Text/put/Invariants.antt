@@ -6,5 +6,5 @@ use Rattle.text.proofs.text.Text.put.Given as goal
 abbrev pub invariant-loop-b : goal.invariant-loop-b
 invariant-loop-b l = record {
   same : l.self.out.ghost_name ≡ l.initial.self.out.ghost_name;
-  wrote : Wrote l.initial.self.out.now l.initial.self.at (take l.b-index l.bytes) l.self.out.now l.self.at;
+  wrote : Wrote l.initial.self (take l.b-index l.bytes) l.self;
 }
