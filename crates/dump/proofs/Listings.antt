@@ -78,9 +78,9 @@ text_append (r ∷ a) b = rw (text_append a b) (sym (append_assoc (row_text r.le
 
 pub listed_none : {t : Text} {n : ℕ} → Listed t n [] t n
 unfolding rows_text
-listed_none {t} = record { wrote = wrote_none t.at_in_bounds; count = omega arith; short = omega arith }
+listed_none {t} = record { wrote = wrote_none t; count = omega arith; short = omega arith }
 
-pub listed_row : {t t' : Text} {n level index w : ℕ} → RowWrote t.out.now t.at level index w t'.out.now t'.at → Listed t n (record { level = level; index = index; word = w } ∷ []) t' (n + 1)
+pub listed_row : {t t' : Text} {n level index w : ℕ} → RowWrote t level index w t' → Listed t n (record { level = level; index = index; word = w } ∷ []) t' (n + 1)
 unfolding rows_text
 listed_row {level = level} {index} {w} r = record {
   wrote = rw (append-nil (row_text level index w)) r.wrote;

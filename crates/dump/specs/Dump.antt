@@ -61,7 +61,7 @@ listed s root (Refused n) = []
 
 -- the rows stand in t' behind the text of t, and are counted on from n
 pub record Listed (t : Text) (n : ℕ) (rows : List Row) (t' : Text) (n' : ℕ) : Type 0 where
-  pub wrote : Wrote t.out.now t.at (rows_text rows) t'.out.now t'.at
+  pub wrote : Wrote t (rows_text rows) t'
   pub count : n' ≡ n + length rows
   pub short : length (rows_text rows) ≤ 27 * length rows
 
@@ -69,5 +69,5 @@ pub record Listed (t : Text) (n : ℕ) (rows : List Row) (t' : Text) (n' : ℕ) 
 pub record Dumped (s : Store) (root : ℕ) (t t' : Text) : Type 0 where
   pub answer : Answer
   pub holds : Dump s root answer
-  pub wrote : Wrote t.out.now t.at (listed s root answer ++ said answer) t'.out.now t'.at
+  pub wrote : Wrote t (listed s root answer ++ said answer) t'
   pub short : length (listed s root answer ++ said answer) ≤ 13824 * length s.tmarks + 24

@@ -32,14 +32,7 @@ fn list_table(words: &[u64], t: usize, level: u64, text: &mut Text<'_>, count: u
 
 // Lists entry i of table t, and the table that it points to.
 #[cycle(list_entry_list_table)]
-fn list_entry(
-    words: &[u64],
-    t: usize,
-    level: u64,
-    i: usize,
-    text: &mut Text<'_>,
-    count: u64,
-) -> u64
+fn list_entry(words: &[u64], t: usize, level: u64, i: usize, text: &mut Text<'_>, count: u64) -> u64
     requires t_bound { (t < 2 ^ 54) × (level ≤ 2) × (i < 512) }
     requires room { count + length (entry_rows words.now level t i) < 2 ^ 64 }
     ensures same_reference { text.new.out.ghost_name ≡ text.old.out.ghost_name }
