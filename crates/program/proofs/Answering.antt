@@ -19,12 +19,13 @@ use Rattle.map.proofs.MapLaws.{one_map}
 use Rattle.command.specs.declared.command.Command.{Command}
 use Rattle.command.specs.declared.command.Command.TheVariants.{New, Map, Find, Dump}
 use Rattle.command.specs.Command.{command_of}
+use Rattle.text.specs.declared.text.Text.{Text}
 use Rattle.text.specs.Text.{said}
 use Rattle.dump.specs.Dump as tree
 use Rattle.program.specs.Answers.{Ran, Answered}
 use Rattle.program.specs.Lines.{Step, Fed}
 
-pub from_dump : {s : Store} {root : ℕ} {o o' : List ℕ} {r : ℕ} → tree.Dumped s root o o' r → Answered s (Some (Dump root)) o o' r s
+pub from_dump : {s : Store} {root : ℕ} {t t' : Text} → tree.Dumped s root t t' → Answered s (Some (Dump root)) t t' s
 from_dump {s} {root} d = record {
   text = tree.listed s root d.answer ++ said d.answer;
   ran = (d.answer, d.holds, refl, refl);

@@ -9,6 +9,7 @@ use Rattle.map.specs.Map as call
 use Rattle.command.specs.declared.command.Command.{Command}
 use Rattle.command.specs.declared.command.Command.TheVariants.{New, Map, Find, Dump}
 use Rattle.command.specs.Command.{command_of}
+use Rattle.text.specs.declared.text.Text.{Text}
 use Rattle.text.specs.Text.{said, Wrote}
 use Rattle.dump.specs.Dump as tree
 
@@ -24,9 +25,9 @@ Ran s None text s' = (text ≡ said (Refused 99)) × (s' ≡ s)
 abbrev pub Printed : Store → List ℕ → List ℕ → Store → Type 0
 Printed s line text s' = Ran s (command_of line) text s'
 
--- a command's text has gone into o, as far as o has room for it
-pub record Answered (s : Store) (c : Option Command) (o o' : List ℕ) (r : ℕ) (s' : Store) : Type 0 where
+-- a command's text has gone into t' behind that of t, as far as there is room for it
+pub record Answered (s : Store) (c : Option Command) (t t' : Text) (s' : Store) : Type 0 where
   pub text : List ℕ
   pub ran : Ran s c text s'
-  pub wrote : Wrote o 0 text o' r
+  pub wrote : Wrote t text t'
   pub short : length text ≤ 13824 * length s.tmarks + 24

@@ -1,5 +1,5 @@
 // What the program prints for a line: the command's call is made, and its answer goes into a lent slice.
-ghost use Rattle.std.specs.Prelude.{take};
+ghost use Rattle.std.specs.Prelude.{◌≡◌, take};
 ghost use Rattle.std.specs.Counts.{IsPrefixLen};
 ghost use Rattle.store.specs.Store.{store_of};
 ghost use Rattle.program.specs.Answers.{Answered, Printed};
@@ -7,6 +7,7 @@ ghost use Rattle.program.specs.Answers.{Answered, Printed};
 use address::{PhysicalAddress, VirtualAddress};
 use command::Command;
 use store::Answer;
+use text::Text;
 
 // Room for 8 tables of 512 lines of at most 27 bytes, and a last line of at most 24.
 pub const ROOM: usize = 110616;
@@ -17,40 +18,36 @@ fn answer_command(
     bytes: &[u8],
     fmarks: &[u32],
     c: Option<Command>,
-    out: &mut [u8],
-) -> usize
-    ensures { Answered
-        (store_of words.old tmarks.old bytes.now fmarks.now) c out.old out.new result
+    text: &mut Text<'_>,
+)
+    ensures same_reference { text.new.out.ghost_name ≡ text.old.out.ghost_name }
+    ensures answered { Answered
+        (store_of words.old tmarks.old bytes.now fmarks.now) c text.old text.new
         (store_of words.new tmarks.new bytes.now fmarks.now) }
 {
     match c {
-        Some(Command::New) => text::put_answer(
-            out,
-            0,
-            map::uvmcreate(words, tmarks, bytes, fmarks),
-        ),
-        Some(Command::Map(root, va, pa, size, perm)) => text::put_answer(
-            out,
-            0,
-            map::map(
-                words,
-                tmarks,
-                bytes,
-                fmarks,
-                root,
-                VirtualAddress(va),
-                PhysicalAddress(pa),
-                size,
-                perm,
-            ),
-        ),
-        Some(Command::Find(root, va)) => text::put_answer(
-            out,
-            0,
-            translate::pgt_translate(words, tmarks, bytes, fmarks, root, VirtualAddress(va)),
-        ),
-        Some(Command::Dump(root)) => dump::dump(words, tmarks, bytes, fmarks, root, out),
-        None => text::put_answer(out, 0, Answer::Refused(99)),
+        Some(Command::New) => text.put_answer(map::uvmcreate(words, tmarks, bytes, fmarks)),
+        Some(Command::Map(root, va, pa, size, perm)) => text.put_answer(map::map(
+            words,
+            tmarks,
+            bytes,
+            fmarks,
+            root,
+            VirtualAddress(va),
+            PhysicalAddress(pa),
+            size,
+            perm,
+        )),
+        Some(Command::Find(root, va)) => text.put_answer(translate::pgt_translate(
+            words,
+            tmarks,
+            bytes,
+            fmarks,
+            root,
+            VirtualAddress(va),
+        )),
+        Some(Command::Dump(root)) => dump::dump(words, tmarks, bytes, fmarks, root, text),
+        None => text.put_answer(Answer::Refused(99)),
     }
 }
 
@@ -68,6 +65,8 @@ pub fn answer_line(
         (store_of words.old tmarks.old bytes.now fmarks.now) line.now (take result out.new)
         (store_of words.new tmarks.new bytes.now fmarks.now) }
 {
+    let mut text = Text::new(out);
     let c = command::read_command(line);
-    answer_command(words, tmarks, bytes, fmarks, c, out)
+    answer_command(words, tmarks, bytes, fmarks, c, &mut text);
+    text.at
 }
