@@ -20,8 +20,7 @@ fn pointed_table(e: u64) -> usize
 fn list_table(words: &[u64], t: usize, level: u64, text: &mut Text<'_>, count: u64) -> u64
     requires t_bound { (t < 2 ^ 54) × (level ≤ 2) }
     requires room { count + length (table words.now level t) < 2 ^ 64 }
-    ensures same_reference { text.new.out.ghost_name ≡ text.old.out.ghost_name }
-    ensures listed { Listed text.old count (table words.now level t) text.new result }
+    ensures { Listed text.old count (table words.now level t) text.new result }
 {
     let mut listed = count;
     for i in 0..512 {
@@ -35,8 +34,7 @@ fn list_table(words: &[u64], t: usize, level: u64, text: &mut Text<'_>, count: u
 fn list_entry(words: &[u64], t: usize, level: u64, i: usize, text: &mut Text<'_>, count: u64) -> u64
     requires t_bound { (t < 2 ^ 54) × (level ≤ 2) × (i < 512) }
     requires room { count + length (entry_rows words.now level t i) < 2 ^ 64 }
-    ensures same_reference { text.new.out.ghost_name ≡ text.old.out.ghost_name }
-    ensures listed { Listed text.old count (entry_rows words.now level t i) text.new result }
+    ensures { Listed text.old count (entry_rows words.now level t i) text.new result }
 {
     let e = store::word_at(words, 512 * t + i);
     if e == 0 {
@@ -58,8 +56,7 @@ pub fn dump(
     root: u64,
     text: &mut Text<'_>,
 )
-    ensures same_reference { text.new.out.ghost_name ≡ text.old.out.ghost_name }
-    ensures dumped { Dumped (store_of words.now tmarks.now bytes.now fmarks.now) root
+    ensures { Dumped (store_of words.now tmarks.now bytes.now fmarks.now) root
         text.old text.new }
 {
     let no = well_formed::judge_root(words, tmarks, bytes, fmarks, root);

@@ -1,5 +1,5 @@
 // What the program prints for a line: the command's call is made, and its answer goes into a lent slice.
-ghost use Rattle.std.specs.Prelude.{◌≡◌, take};
+ghost use Rattle.std.specs.Prelude.{take};
 ghost use Rattle.std.specs.Counts.{IsPrefixLen};
 ghost use Rattle.store.specs.Store.{store_of};
 ghost use Rattle.program.specs.Answers.{Answered, Printed};
@@ -20,8 +20,7 @@ fn answer_command(
     c: Option<Command>,
     text: &mut Text<'_>,
 )
-    ensures same_reference { text.new.out.ghost_name ≡ text.old.out.ghost_name }
-    ensures answered { Answered
+    ensures { Answered
         (store_of words.old tmarks.old bytes.now fmarks.now) c text.old text.new
         (store_of words.new tmarks.new bytes.now fmarks.now) }
 {

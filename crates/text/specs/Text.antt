@@ -30,8 +30,9 @@ row_text level index word = decimal level ++ (32 ∷ (decimal index ++ (32 ∷ (
 abbrev pub written : Text → List ℕ
 written t = take t.at t.out.now
 
--- the slice of t' is as long as that of t, and the text in it is that of t with this text behind it, as far as there is room
+-- the slice of t' is the one that was lent to t, as long as it was, and the text in it is that of t with this text behind it, as far as there is room
 pub record Wrote (t : Text) (text : List ℕ) (t' : Text) : Type 0 where
+  pub same_reference : t'.out.ghost_name ≡ t.out.ghost_name
   pub room : length t'.out.now ≡ length t.out.now
   pub bytes : written t' ≡ take (length t.out.now) (written t ++ text)
 

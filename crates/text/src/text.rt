@@ -41,8 +41,7 @@ impl<'a> Text<'a> {
 
     // One byte.
     pub fn put_byte(&mut self, b: u8)
-        ensures same_reference { self.new.out.ghost_name ≡ self.old.out.ghost_name }
-        ensures wrote { Wrote self.old (b ∷ []) self.new }
+        ensures { Wrote self.old (b ∷ []) self.new }
     {
         if self.at < self.out.len() {
             self.out[self.at] = b;
@@ -52,8 +51,7 @@ impl<'a> Text<'a> {
 
     // Bytes.
     fn put(&mut self, bytes: &[u8])
-        ensures same_reference { self.new.out.ghost_name ≡ self.old.out.ghost_name }
-        ensures wrote { Wrote self.old bytes.now self.new }
+        ensures { Wrote self.old bytes.now self.new }
     {
         for b in bytes {
             self.put_byte(*b);
@@ -62,8 +60,7 @@ impl<'a> Text<'a> {
 
     // A number.
     fn put_number(&mut self, n: u64)
-        ensures same_reference { self.new.out.ghost_name ≡ self.old.out.ghost_name }
-        ensures wrote { Wrote self.old (decimal n) self.new }
+        ensures { Wrote self.old (decimal n) self.new }
     {
         let mut digits = [0u8; 20];
         let count = io::decimal(n, &mut digits);
@@ -73,8 +70,7 @@ impl<'a> Text<'a> {
     // A line of the dump.
     pub fn put_row(&mut self, level: u64, index: u64, word: u64)
         requires level_bound { (level < 10) × (index < 1000) }
-        ensures same_reference { self.new.out.ghost_name ≡ self.old.out.ghost_name }
-        ensures wrote { RowWrote self.old level index word self.new }
+        ensures { RowWrote self.old level index word self.new }
     {
         self.put_number(level);
         self.put_byte(b' ');
@@ -86,8 +82,7 @@ impl<'a> Text<'a> {
 
     // A line of a word and a number.
     fn put_line(&mut self, word: &[u8], n: u64)
-        ensures same_reference { self.new.out.ghost_name ≡ self.old.out.ghost_name }
-        ensures wrote { LineWrote self.old word.now n self.new }
+        ensures { LineWrote self.old word.now n self.new }
     {
         self.put(word);
         self.put_number(n);
@@ -96,8 +91,7 @@ impl<'a> Text<'a> {
 
     // The line of an answer.
     pub fn put_answer(&mut self, a: Answer)
-        ensures same_reference { self.new.out.ghost_name ≡ self.old.out.ghost_name }
-        ensures wrote { SaidWrote self.old a self.new }
+        ensures { SaidWrote self.old a self.new }
     {
         match a {
             Answer::Done(v) => self.put_line(b"ok ", v),

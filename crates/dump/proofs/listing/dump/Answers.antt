@@ -10,10 +10,10 @@ use Rattle.text.proofs.Writing.{wrote_then}
 use Rattle.dump.proofs.Bound.{root_few}
 use Rattle.dump.proofs.listing.dump.Goals as goal
 
-pub returns-then-no-ne0-clause-dumped : goal.returns-then-no-ne0-clause-dumped
+pub returns-then-no-ne0 : goal.returns-then-no-ne0
 unfolding listed
-returns-then-no-ne0-clause-dumped c =
-    let w = c.put_answer.ensures.wrote in
+returns-then-no-ne0 c =
+    let w = c.put_answer.ensures in
     record { answer = Refused c.judge_root-no.result; holds = (c.judge_root-no.ensures.reason c.if-no-ne0.true, refl); wrote = w.wrote; short = omega (arith, w.short) }
 
 pub list_table-count-requires-clause-t_bound : goal.list_table-count-requires-clause-t_bound
@@ -26,12 +26,12 @@ list_table-count-requires-clause-room c =
     let r = c.judge_root-no.ensures.ready c.if-no-ne0.false in
     omega (arith, root_few _ _ r.sized r.formed r.is_root, r.sized.tables_to)
 
-pub returns-clause-dumped : goal.returns-clause-dumped
+pub returns : goal.returns
 unfolding listed
-returns-clause-dumped c =
+returns c =
     let r = c.judge_root-no.ensures.ready c.if-no-ne0.false in
-    let l = c.list_table-count.ensures.listed in
-    let w = c.put_answer-2.ensures.wrote in
+    let l = c.list_table-count.ensures in
+    let w = c.put_answer-2.ensures in
     record {
       answer = Done c.list_table-count.result;
       holds = (root_clear _ _ r, (omega (arith, l.count), refl));

@@ -4,9 +4,9 @@ use Rattle.text.proofs.Decimals.{line_short}
 use Rattle.text.proofs.Writing.{wrote_then}
 use Rattle.text.proofs.text.Text.put_line.Goals as goal
 
-pub returns-clause-wrote : goal.returns-clause-wrote
+pub returns : goal.returns
 unfolding line_of
-returns-clause-wrote c = record {
-  wrote = wrote_then c.put.ensures.wrote (wrote_then c.put_number.ensures.wrote c.put_byte.ensures.wrote);
+returns c = record {
+  wrote = wrote_then c.put.ensures (wrote_then c.put_number.ensures c.put_byte.ensures);
   short = line_short c.args.word.now c.args.n c.ranges.n.fits;
 }

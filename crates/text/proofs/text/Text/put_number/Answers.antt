@@ -2,5 +2,5 @@
 use Rattle.text.proofs.Decimals.{decimal_is}
 use Rattle.text.proofs.text.Text.put_number.Goals as goal
 
-pub returns-clause-wrote : goal.returns-clause-wrote
-returns-clause-wrote c = rw (← decimal_is c.decimal-count.result _ c.decimal-count.ensures.len, ← c.decimal-count.ensures.digits) c.put.ensures.wrote
+pub returns : goal.returns
+returns c = rw (← decimal_is c.decimal-count.result _ c.decimal-count.ensures.len, ← c.decimal-count.ensures.digits) c.put.ensures
