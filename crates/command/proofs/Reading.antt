@@ -21,7 +21,7 @@ use Rattle.command.specs.declared.command.Command.TheVariants.{Map}
 use Rattle.command.specs.Command.{parsed_of, pieces_of, all_numbers, values, told, map_name, command, command_of}
 
 -- an item that comes is the list's first, and the others are to come
-pub first_item : {S A B : Type 0} {steps : S → Option A → S → Type 0} {v : A → B} (all : List B) {s t : S} {r : Option A} (x : A) → YieldsList steps v s all → r ≡ Some x → steps s r t
+first_item : {S A B : Type 0} {steps : S → Option A → S → Type 0} {v : A → B} (all : List B) {s t : S} {r : Option A} (x : A) → YieldsList steps v s all → r ≡ Some x → steps s r t
     → (rest : List B) × (all ≡ v x ∷ rest) × YieldsList steps v t rest
 first_item [] {t = t} x y e m = absurd (y.runs x t (rw e at m))
 first_item (b ∷ bs) {t = t} x y e m = let q = y.runs.1 x t (rw e at m) in (bs, ap (λ z. z ∷ bs) (sym q.0), record { runs = q.1 })

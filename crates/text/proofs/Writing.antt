@@ -1,7 +1,7 @@
 -- Text in a lent slice: nothing, a byte, one text after another, and text that has room. Assumes nothing.
 use mathlib.Core.Path.{◌≡◌, refl, sym, ◌∙◌, ap}
 use mathlib.Core.List.{List, [], ◌∷◌, ◌++◌, append_assoc, append-nil}
-use Prim.Native.Nat.{ℕ, zero, suc, ◌≤◌}
+use Prim.Native.Nat.{ℕ, zero, suc}
 use native.Mathlib.Omega.{arith}
 use lib.ListN.{length, take, length-take}
 use lib.Seq.{take_all}
@@ -24,7 +24,3 @@ wrote_then {t₀} {x = x} {y} w v = record {
   room = v.room ∙ w.room;
   bytes = v.bytes ∙ rw (w.room, w.bytes) (clip (length t₀.out.now) (written t₀ ++ x) y ∙ ap (take (length t₀.out.now)) (append_assoc (written t₀) x y));
 }
-
--- at the start of a slice that has room for it, the text stands whole
-pub wrote_whole : {t t' : Text} {x : List ℕ} → Wrote t x t' → t.at ≡ 0 → length x ≤ length t.out.now → written t' ≡ x
-wrote_whole {t} {t'} {x} w e l = w.bytes ∙ rw e (take_all (length t.out.now) x l)
