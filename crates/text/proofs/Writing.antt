@@ -1,4 +1,4 @@
--- Text in a lent slice: nothing, a byte, one text after another, and text that has room. Assumes nothing.
+-- Text in a lent slice: nothing, and one text after another. Assumes nothing.
 use mathlib.Core.Path.{◌≡◌, refl, sym, ◌∙◌, ap}
 use mathlib.Core.List.{List, [], ◌∷◌, ◌++◌, append_assoc, append-nil}
 use Prim.Native.Nat.{ℕ, zero, suc}
