@@ -1,5 +1,3 @@
--- The laws of pieces, numbers and commands.
+-- The laws of numbers, of pieces and of lines.
 pub mod Parsing
-pub mod Pieces
-pub mod Commands
 pub mod Reading

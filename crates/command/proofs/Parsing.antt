@@ -6,10 +6,12 @@ use native.Mathlib.Numerals.{add-one}
 use native.Mathlib.Omega.{arith}
 use mathlib.Core.Bool.{Bool, true, false, ◌&&◌}
 use mathlib.Core.List.{List, [], ◌∷◌}
+use mathlib.Core.Logic.{inl, inr}
 use lib.ListN.{length, drop, get_or, drop_of_length-le}
 use lib.Seq.{drop-cons}
 use borrow.Author.Tests.{lt-ltb, le-ltb, le-leb, lt-leb}
-use Rattle.command.specs.declared.numbers.Parsed.TheVariants.{Number, Nothing}
+use Rattle.std.specs.Prelude.{Some, None}
+use Rattle.std.specs.Char.{IsAsciiDigit, IsNotAsciiDigit}
 use Rattle.command.specs.Command.{all_digits, denotes, number_from, parsed_of}
 
 and_false : (x : Bool) → (x && false) ≡ false
@@ -22,46 +24,45 @@ unfolding denotes
 grows acc [] = omega arith
 grows acc (b ∷ bs) = omega (arith, grows (acc * 10 + (b - 48)) bs)
 
-done : (acc : ℕ) → acc < 2 ^ 64 → number_from acc [] ≡ Number acc
+done : (acc : ℕ) → acc < 2 ^ 64 → number_from acc [] ≡ Some acc
 unfolding all_digits denotes
 done acc l = simp (lt-ltb acc (2 ^ 64) l)
 
 module _ (acc b : ℕ) (bs : List ℕ) where
-  digit : 48 ≤ b → b ≤ 57 → number_from acc (b ∷ bs) ≡ number_from (acc * 10 + (b - 48)) bs
+  digit : IsAsciiDigit b → number_from acc (b ∷ bs) ≡ number_from (acc * 10 + (b - 48)) bs
   unfolding all_digits denotes
-  digit lo hi = simp (le-leb 48 b lo, le-leb b 57 hi)
+  digit d = simp (le-leb 48 b d.0, le-leb b 57 d.1)
 
-  pub below : b < 48 → number_from acc (b ∷ bs) ≡ Nothing
+  no_digit : IsNotAsciiDigit b → number_from acc (b ∷ bs) ≡ None
   unfolding all_digits denotes
-  below l = simp (lt-leb 48 b l)
+  no_digit (inl l) = simp (lt-leb 48 b l)
+  no_digit (inr l) = simp (lt-leb b 57 l, and_false)
 
-  pub above : 57 < b → number_from acc (b ∷ bs) ≡ Nothing
-  unfolding all_digits denotes
-  above l = simp (lt-leb b 57 l, and_false)
-
-  pub large : 2 ^ 64 ≤ acc * 10 + (b - 48) → number_from acc (b ∷ bs) ≡ Nothing
+  large : 2 ^ 64 ≤ acc * 10 + (b - 48) → number_from acc (b ∷ bs) ≡ None
   unfolding all_digits denotes
   large l = simp (le-ltb (denotes (acc * 10 + (b - 48)) bs) (2 ^ 64) (le_trans l (grows (acc * 10 + (b - 48)) bs)), and_false)
 
 -- what holds where the loop's test is reached
 pub record Going (s : List ℕ) (acc i : ℕ) : Type 0 where
-  pub within : i ≤ length s
   pub fits : acc < 2 ^ 64
-  pub same : number_from 0 s ≡ number_from acc (drop i s)
-  pub some : 0 < length s
+  pub same : parsed_of s ≡ number_from acc (drop i s)
+
+pub begins : (s : List ℕ) → 0 < length s → Going s 0 0
+begins s l = record { fits = omega arith; same = simp (lt-ltb 0 (length s) l) }
 
 module _ {s : List ℕ} {acc i : ℕ} (g : Going s acc i) where
   -- the whole, by the next byte
-  pub next : i < length s → parsed_of s ≡ number_from acc (get_or s i 0 ∷ drop (suc i) s)
-  next l = simp (lt-ltb 0 (length s) g.some) (g.same ∙ ap (number_from acc) (drop-cons s i 0 l))
+  next : i < length s → parsed_of s ≡ number_from acc (get_or s i 0 ∷ drop (suc i) s)
+  next l = g.same ∙ ap (number_from acc) (drop-cons s i 0 l)
 
-  pub again : i < length s → {d : ℕ} → 48 ≤ get_or s i 0 → get_or s i 0 ≤ 57 → d ≡ get_or s i 0 - 48 → acc * 10 + d < 2 ^ 64 → Going s (acc * 10 + d) (i + 1)
-  again l {d} lo hi e f = record {
-    within = omega arith;
-    fits = f;
-    same = g.same ∙ ap (number_from acc) (drop-cons s i 0 l) ∙ digit acc (get_or s i 0) (drop (suc i) s) lo hi ∙ rw (e, add-one) refl;
-    some = g.some;
-  }
+  pub other_byte : i < length s → IsNotAsciiDigit (get_or s i 0) → None ≡ parsed_of s
+  other_byte l n = sym (next l ∙ no_digit _ _ _ n)
 
-  pub ends : length s ≤ i → Number acc ≡ parsed_of s
-  ends l = simp (lt-ltb 0 (length s) g.some) (sym (g.same ∙ ap (number_from acc) (drop_of_length-le s l) ∙ done acc g.fits))
+  pub too_large : i < length s → 2 ^ 64 ≤ acc * 10 + (get_or s i 0 - 48) → None ≡ parsed_of s
+  too_large l h = sym (next l ∙ large _ _ _ h)
+
+  pub again : i < length s → IsAsciiDigit (get_or s i 0) → {n : ℕ} → n ≡ acc * 10 + (get_or s i 0 - 48) → n < 2 ^ 64 → Going s n (i + 1)
+  again l d {n} e f = record { fits = f; same = next l ∙ digit acc (get_or s i 0) (drop (suc i) s) d ∙ rw (e, add-one) refl }
+
+  pub ends : length s ≤ i → Some acc ≡ parsed_of s
+  ends l = sym (g.same ∙ ap (number_from acc) (drop_of_length-le s l) ∙ done acc g.fits)

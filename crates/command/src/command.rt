@@ -1,9 +1,9 @@
 // Which command a line is: its name, and its numbers with single spaces between them.
 ghost use Rattle.std.specs.Prelude.{◌≡◌};
-ghost use Rattle.command.specs.Command.{command_of, named};
+ghost use Rattle.command.specs.Command.{command_of, told};
 
-use super::numbers::Numbers;
-use super::numbers;
+use super::number;
+use arrayvec::ArrayVec;
 
 #[derive(Drop)]
 pub enum Command {
@@ -11,51 +11,35 @@ pub enum Command {
     Map(u64, u64, u64, u64, u64),
     Find(u64, u64),
     Dump(u64),
-    Other,
 }
 
 // The command of this name with these numbers.
-fn command_named(name: &[u8], ns: Numbers) -> Command
-    ensures { result ≡ named name.now ns }
+fn command_named(name: &[u8], numbers: &[u64]) -> Option<Command>
+    ensures { result ≡ told name.now numbers.now }
 {
-    if ns.count == 0 {
-        if check::same(name, b"new") {
-            return Command::New;
+    match (name, numbers) {
+        (b"new", []) => Some(Command::New),
+        (b"dump", [root]) => Some(Command::Dump(*root)),
+        (b"find", [root, va]) => Some(Command::Find(*root, *va)),
+        (b"map", [root, va, pa, size, perm]) => {
+            Some(Command::Map(*root, *va, *pa, *size, *perm))
         }
-        return Command::Other;
+        _ => None,
     }
-    if ns.count == 1 {
-        if check::same(name, b"dump") {
-            return Command::Dump(ns.e);
-        }
-        return Command::Other;
-    }
-    if ns.count == 2 {
-        if check::same(name, b"find") {
-            return Command::Find(ns.d, ns.e);
-        }
-        return Command::Other;
-    }
-    if ns.count == 5 {
-        if check::same(name, b"map") {
-            return Command::Map(ns.a, ns.b, ns.c, ns.d, ns.e);
-        }
-    }
-    Command::Other
 }
 
-// The command that a line is, or Other.
-pub fn read_command(line: &[u8]) -> Command
+// The command that a line is, if it is one.
+pub fn read_command(line: &[u8]) -> Option<Command>
     ensures { result ≡ command_of line.now }
 {
     if 128 < line.len() {
-        return Command::Other;
+        return None;
     }
-    let c = numbers::cut(line, 0);
-    if line.len() <= c {
-        return command_named(line, numbers::no_numbers());
+    let mut pieces = line.split(|b| *b == b' ');
+    let name = pieces.next()?;
+    let mut numbers: ArrayVec<u64, 5> = ArrayVec::new();
+    for piece in pieces {
+        numbers.try_push(number::read_number(piece)?).ok()?;
     }
-    let at = c + 1;
-    let ns = numbers::read_numbers(&line[at..]);
-    command_named(&line[..c], ns)
+    command_named(name, &numbers)
 }

@@ -2,7 +2,6 @@
 #![tactic(auto)]
 
 mod command;
-mod numbers;
+mod number;
 
 pub use command::{Command, read_command};
-pub use numbers::{Numbers, Parsed};

@@ -9,8 +9,8 @@ use lib.ListN.{length, length-append}
 use Rattle.store.specs.Store.{word}
 use Rattle.store.specs.Walk.{table_of}
 use Rattle.text.specs.Text.{RowWrote, row_text}
-use Rattle.dump.specs.Dump.{Row, upward, entry, table, below, entry_rows, rows_text, Listed, Room}
-use Rattle.dump.specs.declared.listing.Listing.{Listing}
+use Rattle.dump.specs.Dump.{Row, upward, entry, table, below, entry_rows, rows_text, Listed}
+use Rattle.text.specs.declared.text.Text.{Text}
 use Rattle.text.proofs.Writing.{wrote_none, wrote_then}
 
 -- ---- the rows of a table and of an entry
@@ -57,8 +57,8 @@ module _ (ws : List ℕ) (l t i e : ℕ) (h : e ≡ word ws (512 * t + i)) where
   pub entry_some : (e ≡ 0 → ⊥) → entry_rows ws l t i ≡ record { level = l; index = i; word = e } ∷ below ws l e
   entry_some n = rw (← h) (entry_full l i e (below ws l e) n)
 
-  pub entry_room : {o : List ℕ} {from : Listing} → (e ≡ 0 → ⊥) → Room o from (entry_rows ws l t i) → from.count + 1 + length (below ws l e) < 2 ^ 64
-  entry_room {o} {from} n r = let q : from.count + suc (length (below ws l e)) < 2 ^ 64 = rw (entry_some n) at r.count in omega arith
+  pub entry_room : (n : ℕ) → (e ≡ 0 → ⊥) → n + length (entry_rows ws l t i) < 2 ^ 64 → n + 1 + length (below ws l e) < 2 ^ 64
+  entry_room n k r = let q : n + suc (length (below ws l e)) < 2 ^ 64 = rw (entry_some k) at r in omega arith
 
 pub below_none : (ws : List ℕ) (l e : ℕ) → l ≡ 0 → below ws l e ≡ []
 unfolding below
@@ -76,22 +76,21 @@ unfolding rows_text
 text_append [] b = refl
 text_append (r ∷ a) b = rw (text_append a b) (sym (append_assoc (row_text r.level r.index r.word) (rows_text a) (rows_text b)))
 
-pub listed_none : {o : List ℕ} {l : Listing} → l.at ≤ length o → Listed o l [] o l
+pub listed_none : {t : Text} {n : ℕ} → Listed t n [] t n
 unfolding rows_text
-listed_none h = record { wrote = wrote_none h; count = omega arith; short = omega arith }
+listed_none {t} = record { wrote = wrote_none t; count = omega arith; short = omega arith }
 
-pub listed_row : {o o' : List ℕ} {l : Listing} {level index w at : ℕ} → RowWrote o l.at level index w o' at
-    → Listed o l (record { level = level; index = index; word = w } ∷ []) o' (record { at = at; count = l.count + 1 })
+pub listed_row : {t t' : Text} {n level index w : ℕ} → RowWrote t level index w t' → Listed t n (record { level = level; index = index; word = w } ∷ []) t' (n + 1)
 unfolding rows_text
-listed_row {o} {o'} {l} {level} {index} {w} {at} r = record {
+listed_row {level = level} {index} {w} r = record {
   wrote = rw (append-nil (row_text level index w)) r.wrote;
   count = refl;
   short = rw (append-nil (row_text level index w)) r.short;
 }
 
-pub listed_then : {o o₁ o₂ : List ℕ} {a b : List Row} {l m r : Listing} → Listed o l a o₁ m → length o₁ ≡ length o → Listed o₁ m b o₂ r → Listed o l (a ++ b) o₂ r
-listed_then {o} {o₁} {o₂} {a} {b} {l} {m} {r} x e y = record {
-  wrote = rw (text_append a b) (wrote_then x.wrote e y.wrote);
+pub listed_then : {t₀ t₁ t₂ : Text} {a b : List Row} {l m r : ℕ} → Listed t₀ l a t₁ m → Listed t₁ m b t₂ r → Listed t₀ l (a ++ b) t₂ r
+listed_then {a = a} {b} x y = record {
+  wrote = rw (text_append a b) (wrote_then x.wrote y.wrote);
   count = rw (length-append a b) (omega (arith, x.count, y.count));
   short = simp (text_append a b, length-append) (omega (arith, x.short, y.short));
 }

@@ -1,13 +1,12 @@
 -- The dump of a root: its tree as lines, in document 01's order. It changes nothing.
-use Rattle.std.specs.Prelude.{◌≡◌, List, [], ◌∷◌, ◌++◌, ℕ, zero, suc, ◌+◌, ◌*◌, ◌^◌, ◌≤◌, ◌<◌, length}
+use Rattle.std.specs.Prelude.{◌≡◌, List, [], ◌∷◌, ◌++◌, ℕ, zero, suc, ◌+◌, ◌*◌, ◌≤◌, length, Result, Ok, Err}
+use Rattle.refusal.specs.declared.Refusal.{Refusal}
 use Rattle.store.specs.Store.{Store, word}
 use Rattle.store.specs.Walk.{table_of}
 use Rattle.store.specs.Outcome.{Outcome}
-use Rattle.store.specs.declared.Answer.{Answer}
-use Rattle.store.specs.declared.Answer.TheVariants.{Refused, Done}
 use Rattle.well_formed.specs.Root.{RootReason}
+use Rattle.text.specs.declared.text.Text.{Text}
 use Rattle.text.specs.Text.{row_text, said, Wrote}
-use Rattle.dump.specs.declared.listing.Listing.{Listing}
 
 -- a line: level, index, word
 pub record Row : Type 0 where
@@ -51,28 +50,23 @@ root_rows s root = table s.words 2 root
 abbrev pub DumpDone : Store → ℕ → ℕ → Store → Type 0
 DumpDone s root v s' = (v ≡ length (root_rows s root)) × (s' ≡ s)
 
-abbrev pub Dump : Store → ℕ → Answer → Type 0
+abbrev pub Dump : Store → ℕ → Result ℕ Refusal → Type 0
 Dump s root r = Outcome (RootReason s root) (DumpDone s root) s r s
 
 -- what is listed before the answer's line: nothing where the dump is refused
-unfoldable pub listed : Store → ℕ → Answer → List ℕ
-listed s root (Done v) = rows_text (root_rows s root)
-listed s root (Refused n) = []
+unfoldable pub listed : Store → ℕ → Result ℕ Refusal → List ℕ
+listed s root (Ok v) = rows_text (root_rows s root)
+listed s root (Err n) = []
 
--- rows have gone into o behind what the listing l had, and are counted
-pub record Listed (o : List ℕ) (l : Listing) (rows : List Row) (o' : List ℕ) (r : Listing) : Type 0 where
-  pub wrote : Wrote o l.at (rows_text rows) o' r.at
-  pub count : r.count ≡ l.count + length rows
+-- the rows stand in t' behind the text of t, and are counted on from n
+pub record Listed (t : Text) (n : ℕ) (rows : List Row) (t' : Text) (n' : ℕ) : Type 0 where
+  pub wrote : Wrote t (rows_text rows) t'
+  pub count : n' ≡ n + length rows
   pub short : length (rows_text rows) ≤ 27 * length rows
 
--- what a listing asks: it stands within o, and its count has room for these rows
-pub record Room (o : List ℕ) (l : Listing) (rows : List Row) : Type 0 where
-  pub within : l.at ≤ length o
-  pub count : l.count + length rows < 2 ^ 64
-
--- the call as a whole: what it answers, and the text that it leaves in o, which is short
-pub record Dumped (s : Store) (root : ℕ) (o o' : List ℕ) (r : ℕ) : Type 0 where
-  pub answer : Answer
+-- the call as a whole: what it answers, and the text that it leaves in t' behind that of t, which is short
+pub record Dumped (s : Store) (root : ℕ) (t t' : Text) : Type 0 where
+  pub answer : Result ℕ Refusal
   pub holds : Dump s root answer
-  pub wrote : Wrote o 0 (listed s root answer ++ said answer) o' r
+  pub wrote : Wrote t (listed s root answer ++ said answer) t'
   pub short : length (listed s root answer ++ said answer) ≤ 13824 * length s.tmarks + 24

@@ -1,91 +1,61 @@
 // The dump of a root: a table lists its entries upward, and a pointer entry lists its table right after itself.
-ghost use Rattle.std.specs.Prelude.{◌^◌, ◌≤◌, ◌<◌, ◌≡◌};
+ghost use Rattle.std.specs.Prelude.{◌^◌, ◌+◌, ◌≤◌, ◌<◌, ◌≡◌, length};
 ghost use Rattle.store.specs.Walk.{table_of};
-ghost use Rattle.store.specs.Store.{store_of};
-ghost use Rattle.dump.specs.Dump.{Listed, Room, table, entry_rows, Dumped};
+ghost use Rattle.store.specs.Store.{seen};
+ghost use Rattle.dump.specs.Dump.{Listed, table, entry_rows, Dumped};
 
-use store::Answer;
-
-// Where the text ends, and how many entries are listed.
-#[derive(Drop)]
-pub struct Listing {
-    pub at: usize,
-    pub count: u64,
-}
+use store::Store;
+use text::Text;
 
 // The table that a pointer entry names.
 fn pointed_table(e: u64) -> usize
     ensures { (result ≡ table_of e) × (result < 2 ^ 54) }
 {
     let frame = (e / 1024) as usize;
-    if frame < 0x10_0000 {
-        return 0;
-    }
-    frame - 0x10_0000
+    frame.saturating_sub(0x10_0000)
 }
 
-// Lists table t of this level.
+// Lists table t of this level, and answers how many entries are listed by then.
 #[cycle(list_entry_list_table)]
-fn list_table(words: &[u64], t: usize, level: u64, out: &mut [u8], from: Listing) -> Listing
+fn list_table(words: &[u64], t: usize, level: u64, text: &mut Text<'_>, count: u64) -> u64
     requires t_bound { (t < 2 ^ 54) × (level ≤ 2) }
-    requires room { Room out.old from (table words.now level t) }
-    ensures { Listed out.old from (table words.now level t) out.new result }
+    requires room { count + length (table words.now level t) < 2 ^ 64 }
+    ensures { Listed text.old count (table words.now level t) text.new result }
 {
-    let mut listing = from;
-    let mut i = 0;
-    while i < 512 {
-        listing = list_entry(words, t, level, i, out, listing);
-        i += 1;
+    let mut listed = count;
+    for i in 0..512 {
+        listed = list_entry(words, t, level, i, text, listed);
     }
-    listing
+    listed
 }
 
 // Lists entry i of table t, and the table that it points to.
 #[cycle(list_entry_list_table)]
-fn list_entry(
-    words: &[u64],
-    t: usize,
-    level: u64,
-    i: usize,
-    out: &mut [u8],
-    from: Listing,
-) -> Listing
+fn list_entry(words: &[u64], t: usize, level: u64, i: usize, text: &mut Text<'_>, count: u64) -> u64
     requires t_bound { (t < 2 ^ 54) × (level ≤ 2) × (i < 512) }
-    requires room { Room out.old from (entry_rows words.now level t i) }
-    ensures { Listed out.old from (entry_rows words.now level t i) out.new result }
+    requires room { count + length (entry_rows words.now level t i) < 2 ^ 64 }
+    ensures { Listed text.old count (entry_rows words.now level t i) text.new result }
 {
     let e = store::word_at(words, 512 * t + i);
     if e == 0 {
-        return from;
+        return count;
     }
-    let at = text::put_row(out, from.at, level, i as u64, e);
-    let listing = Listing {
-        at,
-        count: from.count + 1,
-    };
+    text.put_row(level, i as u64, e);
     if level == 0 {
-        return listing;
+        return count + 1;
     }
-    list_table(words, pointed_table(e), level - 1, out, listing)
+    list_table(words, pointed_table(e), level - 1, text, count + 1)
 }
 
-// Lists the tree of a root and then says how many entries it listed, or says why not. Answers where the text ends.
-pub fn dump(
-    words: &[u64],
-    tmarks: &[u32],
-    bytes: &[u8],
-    fmarks: &[u32],
-    root: u64,
-    out: &mut [u8],
-) -> usize
-    ensures { Dumped (store_of words.now tmarks.now bytes.now fmarks.now) root
-        out.old out.new result }
+// Lists the tree of a root and then says how many entries it listed, or says why not.
+pub fn dump(store: &Store, root: u64, text: &mut Text<'_>)
+    ensures { Dumped (seen store.now) root text.old text.new }
 {
-    let no = well_formed::judge_root(words, tmarks, bytes, fmarks, root);
-    if no != 0 {
-        return text::put_answer(out, 0, Answer::Refused(no));
+    match well_formed::judge_root(store, root) {
+        Err(refusal) => text.put_answer(Err(refusal)),
+        Ok(()) => {
+            let count = list_table(store.words, root as usize, 2, text, 0);
+            text.put_answer(Ok(count));
+        }
     }
-    let start = Listing { at: 0, count: 0 };
-    let end = list_table(words, root as usize, 2, out, start);
-    text::put_answer(out, end.at, Answer::Done(end.count))
 }

@@ -9,9 +9,10 @@ use native.Mathlib.Omega.{arith}
 use lib.Dec.{ltb, leb, eqb}
 use lib.ListN.{length, length-append}
 use borrow.Author.Tests.{lt-ltb, le-ltb, le-leb, eqb-true, eqb-false}
-use Rattle.command.specs.declared.numbers.Parsed.TheVariants.{Number}
+use Rattle.std.specs.Prelude.{Some}
+use Rattle.std.specs.List.{onto_first}
 use Rattle.text.specs.Text.{spelt, decimal}
-use Rattle.command.specs.Command.{all_digits, denotes, parsed_of, pieces_of, grown}
+use Rattle.command.specs.Command.{all_digits, denotes, parsed_of, pieces_of}
 
 -- ---- numbers
 
@@ -53,7 +54,7 @@ spelt_back (suc k) n l = at (dec_lt n 10) (λ g. spelt_back k (n / 10) g)
     at (yes h) more = rw (lt-ltb n 10 h) (last_digit [] n none_digits (none_denote h))
     at (no h) more = let q = more (omega arith) in rw (le-ltb n 10 (omega arith)) (last_digit (spelt k (n / 10)) n q.0 q.1)
 
-pub read_back : (n : ℕ) → n < 2 ^ 64 → parsed_of (decimal n) ≡ Number n
+pub read_back : (n : ℕ) → n < 2 ^ 64 → parsed_of (decimal n) ≡ Some n
 unfolding decimal
 read_back n l =
     let q = spelt_back (suc n) n (omega arith) in
@@ -83,11 +84,11 @@ grows b p (q ∷ ps) = refl
 
 -- the pieces of a line have no space, and the spaces between them make the line
 pub pieces_back : (s : List ℕ) → (p : List ℕ) × (ps : List (List ℕ)) × (pieces_of s ≡ p ∷ ps) × (joined (p ∷ ps) ≡ s) × Spaceless p × Pieces ps
-unfolding pieces_of joined
+unfolding joined
 pieces_back [] = ([], [], refl, refl, tt, tt)
 pieces_back (b ∷ bs) = at (eqb b 32) refl (pieces_back bs)
   where
     at : (t : Bool) → eqb b 32 ≡ t → (p : List ℕ) × (ps : List (List ℕ)) × (pieces_of bs ≡ p ∷ ps) × (joined (p ∷ ps) ≡ bs) × Spaceless p × Pieces ps
-        → (p : List ℕ) × (ps : List (List ℕ)) × (cond (eqb b 32) ([] ∷ pieces_of bs) (grown b (pieces_of bs)) ≡ p ∷ ps) × (joined (p ∷ ps) ≡ b ∷ bs) × Spaceless p × Pieces ps
+        → (p : List ℕ) × (ps : List (List ℕ)) × (cond (eqb b 32) ([] ∷ pieces_of bs) (onto_first b (pieces_of bs)) ≡ p ∷ ps) × (joined (p ∷ ps) ≡ b ∷ bs) × Spaceless p × Pieces ps
     at true e (p, ps, h, j, c, cs) = ([], p ∷ ps, rw (e, h) refl, rw (j, eqb-true b 32 e) refl, tt, (c, cs))
     at false e (p, ps, h, j, c, cs) = (b ∷ p, ps, rw (e, h) refl, grows b p ps ∙ ap (λ (l : List ℕ). b ∷ l) j, (eqb-false b 32 e, c), cs)

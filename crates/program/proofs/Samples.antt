@@ -2,79 +2,79 @@
 use mathlib.Core.Path.{◌≡◌, refl, sym}
 use mathlib.Core.List.{[], ◌∷◌}
 use native.Mathlib.Omega.{arith}
-use Rattle.store.specs.declared.Answer.TheVariants.{Refused, Done}
-use Rattle.command.specs.declared.command.Command.TheVariants.{New, Map, Find, Dump, Other}
-use Rattle.command.specs.Command.{command_of, pieces_of, all_digits, denotes, same_bytes, all_numbers, values, told}
-use Rattle.text.specs.Text.{spelt, decimal, line_of, said, row_text}
+use Rattle.std.specs.Prelude.{Some, None, Ok}
+use Rattle.command.specs.declared.command.Command.TheVariants.{New, Map, Find, Dump}
+use Rattle.command.specs.Command.{command_of, all_digits, denotes, all_numbers, values}
+use Rattle.text.specs.Text.{spelt, decimal, line_of, said, no_line, row_text}
 use Rattle.text.proofs.Decimals.{decimal_is}
 
 -- `new`
-line_1 : command_of (110 ∷ 101 ∷ 119 ∷ []) ≡ New
-unfolding pieces_of all_digits denotes same_bytes all_numbers values told
+line_1 : command_of (110 ∷ 101 ∷ 119 ∷ []) ≡ Some New
+unfolding all_digits denotes all_numbers values
 line_1 = refl
 
 -- `map 0 4096 2147483648 4096 22`
-line_2 : command_of (109 ∷ 97 ∷ 112 ∷ 32 ∷ 48 ∷ 32 ∷ 52 ∷ 48 ∷ 57 ∷ 54 ∷ 32 ∷ 50 ∷ 49 ∷ 52 ∷ 55 ∷ 52 ∷ 56 ∷ 51 ∷ 54 ∷ 52 ∷ 56 ∷ 32 ∷ 52 ∷ 48 ∷ 57 ∷ 54 ∷ 32 ∷ 50 ∷ 50 ∷ []) ≡ (Map 0 4096 2147483648 4096 22)
-unfolding pieces_of all_digits denotes same_bytes all_numbers values told
+line_2 : command_of (109 ∷ 97 ∷ 112 ∷ 32 ∷ 48 ∷ 32 ∷ 52 ∷ 48 ∷ 57 ∷ 54 ∷ 32 ∷ 50 ∷ 49 ∷ 52 ∷ 55 ∷ 52 ∷ 56 ∷ 51 ∷ 54 ∷ 52 ∷ 56 ∷ 32 ∷ 52 ∷ 48 ∷ 57 ∷ 54 ∷ 32 ∷ 50 ∷ 50 ∷ []) ≡ Some (Map 0 4096 2147483648 4096 22)
+unfolding all_digits denotes all_numbers values
 line_2 = refl
 
 -- `find 0 4100`
-line_3 : command_of (102 ∷ 105 ∷ 110 ∷ 100 ∷ 32 ∷ 48 ∷ 32 ∷ 52 ∷ 49 ∷ 48 ∷ 48 ∷ []) ≡ (Find 0 4100)
-unfolding pieces_of all_digits denotes same_bytes all_numbers values told
+line_3 : command_of (102 ∷ 105 ∷ 110 ∷ 100 ∷ 32 ∷ 48 ∷ 32 ∷ 52 ∷ 49 ∷ 48 ∷ 48 ∷ []) ≡ Some (Find 0 4100)
+unfolding all_digits denotes all_numbers values
 line_3 = refl
 
 -- `dump 0`
-line_4 : command_of (100 ∷ 117 ∷ 109 ∷ 112 ∷ 32 ∷ 48 ∷ []) ≡ (Dump 0)
-unfolding pieces_of all_digits denotes same_bytes all_numbers values told
+line_4 : command_of (100 ∷ 117 ∷ 109 ∷ 112 ∷ 32 ∷ 48 ∷ []) ≡ Some (Dump 0)
+unfolding all_digits denotes all_numbers values
 line_4 = refl
 
 -- `find 0 18446744073709551615`
-line_5 : command_of (102 ∷ 105 ∷ 110 ∷ 100 ∷ 32 ∷ 48 ∷ 32 ∷ 49 ∷ 56 ∷ 52 ∷ 52 ∷ 54 ∷ 55 ∷ 52 ∷ 52 ∷ 48 ∷ 55 ∷ 51 ∷ 55 ∷ 48 ∷ 57 ∷ 53 ∷ 53 ∷ 49 ∷ 54 ∷ 49 ∷ 53 ∷ []) ≡ (Find 0 18446744073709551615)
-unfolding pieces_of all_digits denotes same_bytes all_numbers values told
+line_5 : command_of (102 ∷ 105 ∷ 110 ∷ 100 ∷ 32 ∷ 48 ∷ 32 ∷ 49 ∷ 56 ∷ 52 ∷ 52 ∷ 54 ∷ 55 ∷ 52 ∷ 52 ∷ 48 ∷ 55 ∷ 51 ∷ 55 ∷ 48 ∷ 57 ∷ 53 ∷ 53 ∷ 49 ∷ 54 ∷ 49 ∷ 53 ∷ []) ≡ Some (Find 0 18446744073709551615)
+unfolding all_digits denotes all_numbers values
 line_5 = refl
 
 -- `find 0 18446744073709551616`
-line_6 : command_of (102 ∷ 105 ∷ 110 ∷ 100 ∷ 32 ∷ 48 ∷ 32 ∷ 49 ∷ 56 ∷ 52 ∷ 52 ∷ 54 ∷ 55 ∷ 52 ∷ 52 ∷ 48 ∷ 55 ∷ 51 ∷ 55 ∷ 48 ∷ 57 ∷ 53 ∷ 53 ∷ 49 ∷ 54 ∷ 49 ∷ 54 ∷ []) ≡ Other
-unfolding pieces_of all_digits denotes same_bytes all_numbers values told
+line_6 : command_of (102 ∷ 105 ∷ 110 ∷ 100 ∷ 32 ∷ 48 ∷ 32 ∷ 49 ∷ 56 ∷ 52 ∷ 52 ∷ 54 ∷ 55 ∷ 52 ∷ 52 ∷ 48 ∷ 55 ∷ 51 ∷ 55 ∷ 48 ∷ 57 ∷ 53 ∷ 53 ∷ 49 ∷ 54 ∷ 49 ∷ 54 ∷ []) ≡ None
+unfolding all_digits denotes all_numbers values
 line_6 = refl
 
 -- `find 007 0`
-line_7 : command_of (102 ∷ 105 ∷ 110 ∷ 100 ∷ 32 ∷ 48 ∷ 48 ∷ 55 ∷ 32 ∷ 48 ∷ []) ≡ (Find 7 0)
-unfolding pieces_of all_digits denotes same_bytes all_numbers values told
+line_7 : command_of (102 ∷ 105 ∷ 110 ∷ 100 ∷ 32 ∷ 48 ∷ 48 ∷ 55 ∷ 32 ∷ 48 ∷ []) ≡ Some (Find 7 0)
+unfolding all_digits denotes all_numbers values
 line_7 = refl
 
 -- an empty line
-line_8 : command_of ([]) ≡ Other
-unfolding pieces_of all_digits denotes same_bytes all_numbers values told
+line_8 : command_of ([]) ≡ None
+unfolding all_digits denotes all_numbers values
 line_8 = refl
 
 -- `new `
-line_9 : command_of (110 ∷ 101 ∷ 119 ∷ 32 ∷ []) ≡ Other
-unfolding pieces_of all_digits denotes same_bytes all_numbers values told
+line_9 : command_of (110 ∷ 101 ∷ 119 ∷ 32 ∷ []) ≡ None
+unfolding all_digits denotes all_numbers values
 line_9 = refl
 
 -- `find 0  0`
-line_10 : command_of (102 ∷ 105 ∷ 110 ∷ 100 ∷ 32 ∷ 48 ∷ 32 ∷ 32 ∷ 48 ∷ []) ≡ Other
-unfolding pieces_of all_digits denotes same_bytes all_numbers values told
+line_10 : command_of (102 ∷ 105 ∷ 110 ∷ 100 ∷ 32 ∷ 48 ∷ 32 ∷ 32 ∷ 48 ∷ []) ≡ None
+unfolding all_digits denotes all_numbers values
 line_10 = refl
 
 -- `new\r`
-line_11 : command_of (110 ∷ 101 ∷ 119 ∷ 13 ∷ []) ≡ Other
-unfolding pieces_of all_digits denotes same_bytes all_numbers values told
+line_11 : command_of (110 ∷ 101 ∷ 119 ∷ 13 ∷ []) ≡ None
+unfolding all_digits denotes all_numbers values
 line_11 = refl
 
 -- `dump`
-line_12 : command_of (100 ∷ 117 ∷ 109 ∷ 112 ∷ []) ≡ Other
-unfolding pieces_of all_digits denotes same_bytes all_numbers values told
+line_12 : command_of (100 ∷ 117 ∷ 109 ∷ 112 ∷ []) ≡ None
+unfolding all_digits denotes all_numbers values
 line_12 = refl
 
 -- `ok 0`
-text_1 : said (Done 0) ≡ 111 ∷ 107 ∷ 32 ∷ 48 ∷ 10 ∷ []
+text_1 : said (Ok 0) ≡ 111 ∷ 107 ∷ 32 ∷ 48 ∷ 10 ∷ []
 unfolding said line_of row_text decimal spelt
 text_1 = refl
 
 -- `no 99`
-text_2 : said (Refused 99) ≡ 110 ∷ 111 ∷ 32 ∷ 57 ∷ 57 ∷ 10 ∷ []
+text_2 : no_line 99 ≡ 110 ∷ 111 ∷ 32 ∷ 57 ∷ 57 ∷ 10 ∷ []
 unfolding said line_of row_text decimal spelt
 text_2 = refl
 

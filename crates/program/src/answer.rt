@@ -6,7 +6,8 @@ ghost use Rattle.program.specs.Answers.{Answered, Printed};
 
 use address::{PhysicalAddress, VirtualAddress};
 use command::Command;
-use store::Answer;
+use store::Store;
+use text::Text;
 
 // Room for 8 tables of 512 lines of at most 27 bytes, and a last line of at most 24.
 pub const ROOM: usize = 110616;
@@ -16,37 +17,45 @@ fn answer_command(
     tmarks: &mut [u32],
     bytes: &[u8],
     fmarks: &[u32],
-    c: Command,
-    out: &mut [u8],
-) -> usize
+    c: Option<Command>,
+    text: &mut Text<'_>,
+)
     ensures { Answered
-        (store_of words.old tmarks.old bytes.now fmarks.now) c out.old out.new result
+        (store_of words.old tmarks.old bytes.now fmarks.now) c text.old text.new
         (store_of words.new tmarks.new bytes.now fmarks.now) }
 {
     match c {
-        Command::New => text::put_answer(out, 0, map::uvmcreate(words, tmarks, bytes, fmarks)),
-        Command::Map(root, va, pa, size, perm) => text::put_answer(
-            out,
-            0,
-            map::map(
+        Some(Command::New) => text.put_answer(map::uvmcreate(words, tmarks, bytes, fmarks)),
+        Some(Command::Map(root, va, pa, size, perm)) => text.put_answer(map::map(
+            words,
+            tmarks,
+            bytes,
+            fmarks,
+            root,
+            VirtualAddress(va),
+            PhysicalAddress(pa),
+            size,
+            perm,
+        )),
+        Some(Command::Find(root, va)) => {
+            let store = Store {
                 words,
                 tmarks,
                 bytes,
                 fmarks,
-                root,
-                VirtualAddress(va),
-                PhysicalAddress(pa),
-                size,
-                perm,
-            ),
-        ),
-        Command::Find(root, va) => text::put_answer(
-            out,
-            0,
-            translate::pgt_translate(words, tmarks, bytes, fmarks, root, VirtualAddress(va)),
-        ),
-        Command::Dump(root) => dump::dump(words, tmarks, bytes, fmarks, root, out),
-        Command::Other => text::put_answer(out, 0, Answer::Refused(99)),
+            };
+            text.put_answer(translate::pgt_translate(&store, root, VirtualAddress(va)))
+        }
+        Some(Command::Dump(root)) => {
+            let store = Store {
+                words,
+                tmarks,
+                bytes,
+                fmarks,
+            };
+            dump::dump(&store, root, text)
+        }
+        None => text.put_refusal(99),
     }
 }
 
@@ -64,6 +73,8 @@ pub fn answer_line(
         (store_of words.old tmarks.old bytes.now fmarks.now) line.now (take result out.new)
         (store_of words.new tmarks.new bytes.now fmarks.now) }
 {
+    let mut text = Text::new(out);
     let c = command::read_command(line);
-    answer_command(words, tmarks, bytes, fmarks, c, out)
+    answer_command(words, tmarks, bytes, fmarks, c, &mut text);
+    text.at
 }

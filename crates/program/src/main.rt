@@ -3,19 +3,14 @@
 
 mod answer;
 
-ghost use Rattle.std.specs.Prelude.{◌≤◌, length, take};
+ghost use Rattle.std.specs.Prelude.{◌≡◌, length};
 ghost use Rattle.store.specs.Store.{store_of};
+ghost use Rattle.text.specs.Text.{written};
 ghost use Rattle.program.specs.Lines.{Told, Step, Fed};
 
-use std::io::Read;
 use std::io;
-
-// How many bytes of a line have come, and whether to read on.
-#[derive(Drop)]
-struct Turn {
-    n: usize,
-    more: bool,
-}
+use std::io::Read;
+use text::Text;
 
 // Keeps the first failure.
 fn keep_first(outcome: &mut io::Result<()>, next: io::Result<()>) {
@@ -50,20 +45,21 @@ fn take_byte(
     tmarks: &mut [u32; 8],
     bytes: &[u8; 32768],
     fmarks: &[u32; 8],
-    line: &mut [u8],
-    n: usize,
+    line: &mut Text<'_>,
     b: u8,
-) -> usize
-    requires { n ≤ length line.old }
-    ensures { (result ≤ length line.new) × Step (length line.old)
-        (store_of words.old tmarks.old bytes.now fmarks.now) (take n line.old) b
-        (store_of words.new tmarks.new bytes.now fmarks.now) (take result line.new) }
+)
+    ensures same_reference { line.new.out.ghost_name ≡ line.old.out.ghost_name }
+    ensures room { length line.new.out.now ≡ length line.old.out.now }
+    ensures step { Step (length line.old.out.now)
+        (store_of words.old tmarks.old bytes.now fmarks.now) (written line.old) b
+        (store_of words.new tmarks.new bytes.now fmarks.now) (written line.new) }
 {
     if b == b'\n' {
-        print_answer(rt, outcome, words, tmarks, bytes, fmarks, &line[..n]);
-        return 0;
+        print_answer(rt, outcome, words, tmarks, bytes, fmarks, line.as_slice());
+        line.clear();
+    } else {
+        line.put_byte(b);
     }
-    text::put_byte(line, n, b)
 }
 
 // The bytes of one read.
@@ -74,25 +70,21 @@ fn take_all(
     tmarks: &mut [u32; 8],
     bytes: &[u8; 32768],
     fmarks: &[u32; 8],
-    line: &mut [u8],
-    n: usize,
+    line: &mut Text<'_>,
     s: &[u8],
-) -> usize
-    requires { n ≤ length line.old }
-    ensures { (result ≤ length line.new) × Fed (length line.old)
-        (store_of words.old tmarks.old bytes.now fmarks.now) (take n line.old) s.now
-        (store_of words.new tmarks.new bytes.now fmarks.now) (take result line.new) }
+)
+    ensures same_reference { line.new.out.ghost_name ≡ line.old.out.ghost_name }
+    ensures room { length line.new.out.now ≡ length line.old.out.now }
+    ensures fed { Fed (length line.old.out.now)
+        (store_of words.old tmarks.old bytes.now fmarks.now) (written line.old) s.now
+        (store_of words.new tmarks.new bytes.now fmarks.now) (written line.new) }
 {
-    let mut m = n;
-    let mut i = 0;
-    while i < s.len() {
-        m = take_byte(rt, outcome, words, tmarks, bytes, fmarks, line, m, s[i]);
-        i += 1;
+    for b in s {
+        take_byte(rt, outcome, words, tmarks, bytes, fmarks, line, *b);
     }
-    m
 }
 
-// One read. Where it fails, nothing is read any more.
+// One read, and whether to read on. Where it fails, nothing is read any more.
 fn one_read(
     rt: &impl Print,
     input: &mut impl Read,
@@ -101,38 +93,24 @@ fn one_read(
     tmarks: &mut [u32; 8],
     bytes: &[u8; 32768],
     fmarks: &[u32; 8],
-    line: &mut [u8],
-    n: usize,
-) -> Turn
-    requires { n ≤ length line.old }
-    ensures { result.n ≤ length line.new }
-{
+    line: &mut Text<'_>,
+) -> bool {
     let mut buf = [0u8; 4096];
     match input.read(&mut buf) {
-        Ok(0) => Turn { n, more: false },
+        Ok(0) => false,
         Ok(k) => {
-            let m = take_all(
-                rt,
-                outcome,
-                words,
-                tmarks,
-                bytes,
-                fmarks,
-                line,
-                n,
-                &buf[..k],
-            );
-            Turn { n: m, more: true }
+            take_all(rt, outcome, words, tmarks, bytes, fmarks, line, &buf[..k]);
+            true
         }
         Err(e) => {
             keep_first(outcome, Err(e));
-            Turn { n, more: false }
+            false
         }
     }
 }
 
-// Reads to the end, and answers how many bytes of a last line without a line end are left. A proved loop has to end, and nothing
-// says that the input does: the turns are counted, up to a number that no run comes to.
+// Reads to the end, which leaves the bytes of a last line without a line end. A proved loop has to end, and nothing says that the
+// input does: the turns are counted, up to a number that no run comes to.
 fn run(
     rt: &(impl Input + Print),
     outcome: &mut io::Result<()>,
@@ -140,22 +118,14 @@ fn run(
     tmarks: &mut [u32; 8],
     bytes: &[u8; 32768],
     fmarks: &[u32; 8],
-    line: &mut [u8],
-) -> usize
-    ensures { result ≤ length line.new }
-{
+    line: &mut Text<'_>,
+) {
     let mut input = rt.reader();
-    let mut n = 0;
     for _ in 0..u64::MAX {
-        let t = one_read(
-            rt, &mut input, outcome, words, tmarks, bytes, fmarks, line, n,
-        );
-        n = t.n;
-        if !t.more {
-            return n;
+        if !one_read(rt, &mut input, outcome, words, tmarks, bytes, fmarks, line) {
+            return;
         }
     }
-    n
 }
 
 // A read or a write that failed ends the run with its error, once the input is read as far as it goes.
@@ -164,10 +134,11 @@ fn main(rt: HostRuntime) -> io::Result<()> {
     let mut tmarks = [0u32; 8];
     let mut bytes = [0u8; 32768];
     let mut fmarks = [0u32; 8];
-    store::set_up(&mut words, &mut tmarks, &mut bytes, &mut fmarks);
-    let mut line = [0u8; 129];
+    let _ = store::set_up(&mut words, &mut tmarks, &mut bytes, &mut fmarks);
+    let mut room = [0u8; 129];
+    let mut line = Text::new(&mut room);
     let mut outcome = Ok(());
-    let n = run(
+    run(
         &rt,
         &mut outcome,
         &mut words,
@@ -176,7 +147,8 @@ fn main(rt: HostRuntime) -> io::Result<()> {
         &fmarks,
         &mut line,
     );
-    if 0 < n {
+    let last = line.as_slice();
+    if !last.is_empty() {
         print_answer(
             &rt,
             &mut outcome,
@@ -184,7 +156,7 @@ fn main(rt: HostRuntime) -> io::Result<()> {
             &mut tmarks,
             &bytes,
             &fmarks,
-            &line[..n],
+            last,
         );
     }
     outcome

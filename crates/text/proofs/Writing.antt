@@ -1,12 +1,12 @@
--- Text in a lent slice: nothing, a byte, one text after another, and text that has room. Assumes nothing.
+-- Text in a lent slice: nothing, and one text after another. Assumes nothing.
 use mathlib.Core.Path.{◌≡◌, refl, sym, ◌∙◌, ap}
 use mathlib.Core.List.{List, [], ◌∷◌, ◌++◌, append_assoc, append-nil}
-use Prim.Native.Nat.{ℕ, zero, suc, ◌+◌, ◌≤◌, ◌<◌}
-use native.Mathlib.Numerals.{add-one}
+use Prim.Native.Nat.{ℕ, zero, suc}
 use native.Mathlib.Omega.{arith}
-use lib.ListN.{length, take, set, length-take, length-append}
-use lib.Seq.{take_all, take_at, take-suc-set}
-use Rattle.text.specs.Text.{Wrote}
+use lib.ListN.{length, take, length-take}
+use lib.Seq.{take_all}
+use Rattle.text.specs.declared.text.Text.{Text}
+use Rattle.text.specs.Text.{written, Wrote}
 
 -- what is cut off may be cut off later
 pub clip : (n : ℕ) (x u : List ℕ) → take n (take n x ++ u) ≡ take n (x ++ u)
@@ -14,28 +14,13 @@ clip zero x u = refl
 clip (suc n) [] u = refl
 clip (suc n) (y ∷ x) u = ap (λ (l : List ℕ). y ∷ l) (clip n x u)
 
-module _ {o : List ℕ} {at : ℕ} (l : at ≤ length o) where
-  pub wrote_none : Wrote o at [] o at
-  wrote_none = record { within = l; bytes = sym (ap (take (length o)) (append-nil (take at o)) ∙ take_all (length o) (take at o) (simp length-take (omega arith))) }
-
-  pub wrote_in : {b : ℕ} → at < length o → Wrote o at (b ∷ []) (set o at b) (at + 1)
-  wrote_in {b} h = record {
-    within = omega arith;
-    bytes = rw add-one (take-suc-set o at b h ∙ sym (take_all (length o) (take at o ++ (b ∷ [])) (simp (length-append, length-take) (omega arith))));
-  }
-
-  pub wrote_full : {b : ℕ} → length o ≤ at → Wrote o at (b ∷ []) o at
-  wrote_full {b} h =
-      let e : length (take at o) ≡ length o = simp length-take (omega arith) in
-      record { within = l; bytes = sym (take_at (take at o) (b ∷ []) (length o) e) }
+pub wrote_none : (t : Text) → Wrote t [] t
+wrote_none t = record { same_reference = refl; room = refl; bytes = sym (ap (take (length t.out.now)) (append-nil (written t)) ∙ take_all (length t.out.now) (written t) (simp length-take (omega arith))) }
 
 -- one text after another
-pub wrote_then : {o o₁ o₂ t u : List ℕ} {at b c : ℕ} → Wrote o at t o₁ b → length o₁ ≡ length o → Wrote o₁ b u o₂ c → Wrote o at (t ++ u) o₂ c
-wrote_then {o} {o₁} {o₂} {t} {u} {at} {b} {c} w e v = record {
-  within = omega (arith, v.within);
-  bytes = v.bytes ∙ rw (e, w.bytes) (clip (length o) (take at o ++ t) u ∙ ap (take (length o)) (append_assoc (take at o) t u));
+pub wrote_then : {t₀ t₁ t₂ : Text} {x y : List ℕ} → Wrote t₀ x t₁ → Wrote t₁ y t₂ → Wrote t₀ (x ++ y) t₂
+wrote_then {t₀} {x = x} {y} w v = record {
+  same_reference = v.same_reference ∙ w.same_reference;
+  room = v.room ∙ w.room;
+  bytes = v.bytes ∙ rw (w.room, w.bytes) (clip (length t₀.out.now) (written t₀ ++ x) y ∙ ap (take (length t₀.out.now)) (append_assoc (written t₀) x y));
 }
-
--- at the start of a slice that has room for it, the text stands whole
-pub wrote_whole : {o o' t : List ℕ} {r : ℕ} → Wrote o 0 t o' r → length t ≤ length o → take r o' ≡ t
-wrote_whole {o} {o'} {t} w l = w.bytes ∙ take_all (length o) t l

@@ -3,4 +3,4 @@
 
 mod text;
 
-pub use text::{put_answer, put_byte, put_row};
+pub use text::Text;

@@ -1,76 +1,108 @@
 // Text goes into a lent slice: bytes, numbers in decimal, the lines of the program. What finds no room is left out.
-ghost use Rattle.std.specs.Prelude.{◌<◌, ◌≤◌, [], ◌∷◌, length};
-ghost use Rattle.text.specs.Text.{Wrote, decimal, LineWrote, SaidWrote, RowWrote};
+ghost use Rattle.std.specs.Prelude.{◌≡◌, ◌<◌, ◌≤◌, [], ◌∷◌, length};
 
-use store::Answer;
+use refusal::Refusal;
 
-// One byte. Each of these answers where the text ends.
-pub fn put_byte(out: &mut [u8], at: usize, b: u8) -> usize
-    requires { at ≤ length out.old }
-    ensures { Wrote out.old at (b ∷ []) out.new result }
-{
-    if at < out.len() {
-        out[at] = b;
-        return at + 1;
+// A lent slice, and where the text in it ends.
+#[derive(Drop)]
+pub struct Text<'a> {
+    pub out: &'a mut [u8],
+    pub at: usize,
+    ghost at_in_bounds: { at ≤ length out.now },
+}
+
+impl<'a> Text<'a> {
+    ghost use Rattle.text.specs.Text.{written, Wrote, decimal, LineWrote, SaidWrote, RowWrote};
+
+    // No text so far.
+    pub fn new(out: &'a mut [u8]) -> Text<'a>
+        ensures same_reference { result.out.ghost_name ≡ out.entry.ghost_name }
+        ensures bytes { result.out.now ≡ out.old }
+        ensures empty { result.at ≡ 0 }
+    {
+        Text { out, at: 0 }
     }
-    at
-}
 
-// Bytes.
-fn put(out: &mut [u8], at: usize, src: &[u8]) -> usize
-    requires { at ≤ length out.old }
-    ensures { Wrote out.old at src.now out.new result }
-{
-    let mut n = at;
-    let mut i = 0;
-    while i < src.len() {
-        n = put_byte(out, n, src[i]);
-        i += 1;
+    // The text so far.
+    pub fn as_slice(&self) -> &[u8]
+        ensures { result.now ≡ written self.now }
+    {
+        &self.out[..self.at]
     }
-    n
-}
 
-// A number.
-fn put_number(out: &mut [u8], at: usize, n: u64) -> usize
-    requires { at ≤ length out.old }
-    ensures { Wrote out.old at (decimal n) out.new result }
-{
-    let mut digits = [0u8; 20];
-    let k = io::decimal(n, &mut digits);
-    put(out, at, &digits[..k])
-}
+    // Begins again, with no text.
+    pub fn clear(&mut self)
+        ensures same_reference { self.new.out.ghost_name ≡ self.old.out.ghost_name }
+        ensures bytes { self.new.out.now ≡ self.old.out.now }
+        ensures empty { self.new.at ≡ 0 }
+    {
+        self.at = 0;
+    }
 
-// A line of the dump.
-pub fn put_row(out: &mut [u8], at: usize, level: u64, index: u64, word: u64) -> usize
-    requires at_in_bounds { at ≤ length out.old }
-    requires level_bound { (level < 10) × (index < 1000) }
-    ensures { RowWrote out.old at level index word out.new result }
-{
-    let a = put_number(out, at, level);
-    let b = put_byte(out, a, b' ');
-    let c = put_number(out, b, index);
-    let d = put_byte(out, c, b' ');
-    let e = put_number(out, d, word);
-    put_byte(out, e, b'\n')
-}
+    // One byte.
+    pub fn put_byte(&mut self, b: u8)
+        ensures { Wrote self.old (b ∷ []) self.new }
+    {
+        if self.at < self.out.len() {
+            self.out[self.at] = b;
+            self.at += 1;
+        }
+    }
 
-// A line of a word and a number.
-fn put_line(out: &mut [u8], at: usize, word: &[u8], n: u64) -> usize
-    requires { at ≤ length out.old }
-    ensures { LineWrote out.old at word.now n out.new result }
-{
-    let a = put(out, at, word);
-    let b = put_number(out, a, n);
-    put_byte(out, b, b'\n')
-}
+    // Bytes.
+    fn put(&mut self, bytes: &[u8])
+        ensures { Wrote self.old bytes.now self.new }
+    {
+        for b in bytes {
+            self.put_byte(*b);
+        }
+    }
 
-// The line of an answer.
-pub fn put_answer(out: &mut [u8], at: usize, a: Answer) -> usize
-    requires { at ≤ length out.old }
-    ensures { SaidWrote out.old at a out.new result }
-{
-    match a {
-        Answer::Done(v) => put_line(out, at, b"ok ", v),
-        Answer::Refused(n) => put_line(out, at, b"no ", n),
+    // A number.
+    fn put_number(&mut self, n: u64)
+        ensures { Wrote self.old (decimal n) self.new }
+    {
+        let mut digits = [0u8; 20];
+        let count = io::decimal(n, &mut digits);
+        self.put(&digits[..count]);
+    }
+
+    // A line of the dump.
+    pub fn put_row(&mut self, level: u64, index: u64, word: u64)
+        requires level_bound { (level < 10) × (index < 1000) }
+        ensures { RowWrote self.old level index word self.new }
+    {
+        self.put_number(level);
+        self.put_byte(b' ');
+        self.put_number(index);
+        self.put_byte(b' ');
+        self.put_number(word);
+        self.put_byte(b'\n');
+    }
+
+    // A line of a word and a number.
+    fn put_line(&mut self, word: &[u8], n: u64)
+        ensures { LineWrote self.old word.now n self.new }
+    {
+        self.put(word);
+        self.put_number(n);
+        self.put_byte(b'\n');
+    }
+
+    // The line of a refusal.
+    pub fn put_refusal(&mut self, number: u64)
+        ensures { LineWrote self.old (110 ∷ 111 ∷ 32 ∷ []) number self.new }
+    {
+        self.put_line(b"no ", number);
+    }
+
+    // The line of an answer.
+    pub fn put_answer(&mut self, answer: Result<u64, Refusal>)
+        ensures { SaidWrote self.old answer self.new }
+    {
+        match answer {
+            Ok(value) => self.put_line(b"ok ", value),
+            Err(refusal) => self.put_refusal(refusal.number()),
+        }
     }
 }

@@ -1,25 +1,29 @@
 -- `command::command::read_command` meets its contract. Assumes nothing.
-use mathlib.Core.Path.{sym}
-use Prim.Native.Nat.{◌+◌, ◌-◌, ◌≤◌}
-use native.Mathlib.Omega.{arith}
-use lib.ListN.{length, drop, length-drop}
-use lib.Seq.{length-take-le, take_all}
-use borrow.Author.Tests.{lt-ltb}
-use Rattle.command.proofs.Reading.{one_piece, more_pieces}
+use Rattle.std.proofs.Common.{rules, tests, ◌∙◌, arith}
+use Rattle.std.proofs.lemmas.Grind.{common_steps}
+use Rattle.command.proofs.Reading.{named, other_piece, more_than_five, all_pieces}
 use Rattle.command.proofs.command.read_command.Goals as goal
 
-pub returns-then-line-gt128 : goal.returns-then-line-gt128
-returns-then-line-gt128 c = sym (rw (lt-ltb 128 (length c.args.line.now) (omega arith)))
+pub returns-in_err-read_number : goal.returns-in_err-read_number
+returns-in_err-read_number c =
+    let p = c.split-pieces in
+    let n = named c.args.line.now p.result c.next.ensures.steps c.in_ok-name.was p.ensures.rest p.ensures.done p.ensures.closure (λ x b q k. search (rules, tests)) in
+    let l = c.loop-piece in
+    let m = c.next-in-loop-piece in
+    c.from_residual-in_err-read_number.ensures ∙ other_piece n (omega arith) l.yielded l.piece-iterator (rw c.into_iter-piece-iterator.ensures.into_iter_gives at l.yielded_by) l.numbers.items l.invariant m.result m.new.self m.ensures.steps _ c.in-Some.is c.in_err-read_number.ensures
 
-pub returns-then-line-c : goal.returns-then-line-c
-returns-then-line-c c = one_piece c.args.line.now (omega arith) c.cut-c.ensures.0 c.if-line-c.true c.no_numbers.ensures c.command_named.ensures
-
-pub slice_bounds-command_named-end : goal.slice_bounds-command_named-end
-slice_bounds-command_named-end c = sym (length-take-le _ _ c.cut-c.ensures.1)
+pub returns-in_err-ok : goal.returns-in_err-ok
+returns-in_err-ok c =
+    let p = c.split-pieces in
+    let n = named c.args.line.now p.result c.next.ensures.steps c.in_ok-name.was p.ensures.rest p.ensures.done p.ensures.closure (λ x b q k. search (rules, tests)) in
+    let l = c.loop-piece in
+    let m = c.next-in-loop-piece in
+    c.from_residual-in_err-ok.ensures ∙ more_than_five n (omega arith) l.yielded l.piece-iterator (rw c.into_iter-piece-iterator.ensures.into_iter_gives at l.yielded_by) l.numbers.items l.invariant m.result m.new.self m.ensures.steps _ c.in-Some.is (grind (arith, common_steps, c.in_err-ok.ensures.variant, c.try_push.ensures.full))
 
 pub returns : goal.returns
 returns c =
-    let line = c.args.line.now in
-    let cut = c.cut-c.result in
-    let l : length (drop (cut + 1) line) ≤ length line - (cut + 1) = simp length-drop (omega arith) in
-    more_pieces line (omega arith) c.cut-c.ensures.0 c.if-line-c.false (take_all (length line - (cut + 1)) (drop (cut + 1) line) l) c.read_numbers-ns.ensures c.command_named-2.ensures
+    let p = c.split-pieces in
+    let n = named c.args.line.now p.result c.next.ensures.steps c.in_ok-name.was p.ensures.rest p.ensures.done p.ensures.closure (λ x b q k. search (rules, tests)) in
+    let l = c.loop-piece in
+    let m = c.next-in-loop-piece in
+    c.command_named.ensures ∙ rw c.deref.ensures.0 (all_pieces n (omega arith) l.yielded l.piece-iterator (rw c.into_iter-piece-iterator.ensures.into_iter_gives at l.yielded_by) l.numbers.items l.invariant m.result m.new.self m.ensures.steps c.in-None.is)

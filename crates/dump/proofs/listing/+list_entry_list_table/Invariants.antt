@@ -1,8 +1,6 @@
 -- An entry of level l calls for the table below at level l - 1, and a table of level l for its entries at the same level: the
 -- measure is 2l for an entry and 2l + 1 for a table.
-use mathlib.Core.Path.{◌≡◌}
-use Prim.Native.Nat.{ℕ, ◌+◌, ◌-◌, ◌≤◌}
-use lib.ListN.{length}
+use Prim.Native.Nat.{ℕ, ◌+◌}
 use Rattle.dump.specs.Dump.{upward, entry_rows, Listed}
 use Rattle.dump.proofs.listing.+list_entry_list_table.Given as goal
 
@@ -13,8 +11,4 @@ abbrev pub decreases-list_table : goal.decreases-list_table
 decreases-list_table l = l.level + l.level + 1
 
 abbrev pub invariant-list_table-loop-i : goal.invariant-list_table-loop-i
-invariant-list_table-loop-i l =
-    (l.i ≤ 512) × (length l.out ≡ length l.initial.out) × Listed l.initial.out l.initial.listing (upward (λ (k : ℕ). entry_rows l.words l.level l.t k) l.i) l.out l.listing
-
-abbrev pub decreases-list_table-loop-i : goal.decreases-list_table-loop-i
-decreases-list_table-loop-i l = 512 - l.i
+invariant-list_table-loop-i l = Listed l.initial.text l.initial.listed (upward (λ (k : ℕ). entry_rows l.words l.level l.t k) l.i) l.text l.listed
