@@ -29,22 +29,12 @@ impl Store<'_> {
     {
         let t = self.tmarks.len();
         let f = self.fmarks.len();
-        if t < 1 {
-            return false;
-        }
-        if 512 < t {
-            return false;
-        }
-        if f < 1 {
-            return false;
-        }
-        if 4096 < f {
-            return false;
-        }
-        if self.words.len() != 512 * t {
-            return false;
-        }
-        self.bytes.len() == 4096 * f
+        1 <= t
+            && t <= 512
+            && 1 <= f
+            && f <= 4096
+            && self.words.len() == 512 * t
+            && self.bytes.len() == 4096 * f
     }
 }
 

@@ -12,28 +12,29 @@ mod words;
 
 ghost use Rattle.store.specs.Outcome.{Judges};
 ghost use Rattle.store.specs.Says.{Says};
-ghost use Rattle.store.specs.Store.{store_of, seen, Sized};
+ghost use Rattle.store.specs.Store.{seen, Sized};
 ghost use Rattle.store.specs.WellFormed.{WellFormed};
 ghost use Rattle.well_formed.specs.Check.{Check, Judged};
 ghost use Rattle.well_formed.specs.Root.{RootReason, RootReady};
 
-use refusal::Refusal;
 pub use scan::zeros;
+
+use refusal::Refusal;
 use store::Store;
 
 // Whether a store of the right sizes is well formed.
-fn formed(words: &[u64], tmarks: &[u32], bytes: &[u8], fmarks: &[u32]) -> bool
-    requires { Sized (store_of words.now tmarks.now bytes.now fmarks.now) }
-    ensures { Says result (WellFormed (store_of words.now tmarks.now bytes.now fmarks.now)) }
+fn formed(store: &Store) -> bool
+    requires { Sized (seen store.now) }
+    ensures { Says result (WellFormed (seen store.now)) }
 {
-    let Some(held) = words::words_ok(words, tmarks) else {
+    let Some(held) = words::words_ok(store.words, store.tmarks) else {
         return false;
     };
-    if !tables::tables_ok(words, tmarks) {
+    if !tables::tables_ok(store.words, store.tmarks) {
         return false;
     }
-    let used = fmarks.len() - store::count_free(fmarks);
-    held == used && (used == 0 || frames::frames_ok(words, tmarks, fmarks))
+    let used = store.fmarks.len() - store::count_free(store.fmarks);
+    held == used && (used == 0 || frames::frames_ok(store.words, store.tmarks, store.fmarks))
 }
 
 // Refuses a store of the wrong sizes, or one that is not well formed.
@@ -43,7 +44,7 @@ pub fn judge_store(store: &Store) -> Result<(), Refusal>
     if !store.sized() {
         return Err(Refusal::Sizes);
     }
-    if !formed(store.words, store.tmarks, store.bytes, store.fmarks) {
+    if !formed(store) {
         return Err(Refusal::NotWellFormed);
     }
     Ok(())
@@ -67,7 +68,7 @@ pub fn check(store: &Store) -> Result<u64, Refusal>
     if !store.sized() {
         return Err(Refusal::Sizes);
     }
-    if !formed(store.words, store.tmarks, store.bytes, store.fmarks) {
+    if !formed(store) {
         return Ok(0);
     }
     Ok(1)
