@@ -1,11 +1,12 @@
 // What a word must have to be counted.
-ghost use Rattle.std.specs.Prelude.{◌≡◌, ◌==◌, bit_and};
+ghost use Rattle.std.specs.Prelude.{◌≡◌, ◌==◌, ◌<◌, bit_and};
 
-// The bits of a word under the mask are the value.
+// The bits of a word under the mask are the value, which is not 0.
 #[derive(Clone, Copy)]
 pub struct Bits {
     pub mask: u64,
     pub value: u64,
+    pub ghost some: { 0 < value },
 }
 
 impl Bits {

@@ -5,11 +5,13 @@
 mod bits;
 mod missing;
 mod ranges;
+mod root_pages;
 mod runs;
 mod steps;
 
 pub use bits::Bits;
 pub use missing::missing_tables;
 pub use ranges::count_pages;
+pub use root_pages::RootPages;
 pub use runs::run_of;
 pub use steps::{slot_in, slot_of, slot_word};

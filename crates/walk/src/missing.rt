@@ -3,6 +3,7 @@ ghost use Rattle.std.specs.Prelude.{◌≡◌, ◌+◌, ◌-◌, ◌*◌, ◌^�
 ghost use Rattle.store.specs.Count.{zeros, is_zero};
 ghost use Rattle.walk.specs.Missing.{entry_in, missing_in, entry_under};
 
+use super::root_pages::RootPages;
 use super::steps::{slot_in, slot_word};
 
 // How many of the blocks from first up to end have no table, where top is the root's entry of their group.
@@ -33,11 +34,12 @@ fn group_missing(words: &[u64], root: usize, group: usize, first: usize, end: us
     blocks_missing(words, top, first, end)
 }
 
-// The tables that the pages from first up to end lack.
-pub fn missing_tables(words: &[u64], root: usize, first: usize, end: usize) -> usize
-    requires { (root < 512) × (first ≤ end) × (end ≤ 2 ^ 26) }
-    ensures { result ≡ missing_in words.now root first (end - first) }
+// The tables that these pages lack.
+pub fn missing_tables(words: &[u64], pages: RootPages) -> usize
+    ensures { result ≡ missing_in words.now pages.root pages.first (pages.end - pages.first) }
 {
+    let first = pages.first;
+    let end = pages.end;
     if end <= first {
         return 0;
     }
@@ -46,7 +48,7 @@ pub fn missing_tables(words: &[u64], root: usize, first: usize, end: usize) -> u
     let mut block = first / 512;
     for group in first / 512 / 512..(end - 1) / 512 / 512 + 1 {
         let next = (512 * group + 512).min(stop);
-        n += group_missing(words, root, group, block, next);
+        n += group_missing(words, pages.root, group, block, next);
         block = next;
     }
     n

@@ -6,6 +6,7 @@ ghost use Rattle.walk.specs.Missing.{entry_under};
 ghost use Rattle.walk.specs.Ranges.{alike, PagesAlike, page_under};
 
 use super::bits::Bits;
+use super::root_pages::RootPages;
 use super::runs::run_of;
 use super::steps::{slot_in, slot_word};
 
@@ -34,7 +35,7 @@ fn count_bits(words: &[u64], bits: Bits) -> usize
 
 // How many pages from first up to end of one block do, where e is its entry; of several blocks, where it is 0.
 fn count_block(words: &[u64], e: u64, first: usize, end: usize, bits: Bits) -> usize
-    requires { (first ≤ end) × (0x4000_0000 ≤ e → end ≤ 512 * (first / 512) + 512) × (0 < bits.value) }
+    requires { (first ≤ end) × (0x4000_0000 ≤ e → end ≤ 512 * (first / 512) + 512) }
     ensures { Over (alike bits.mask bits.value (entry_under words.now e)) first end result }
 {
     if e < 0x4000_0000 {
@@ -48,7 +49,7 @@ fn count_block(words: &[u64], e: u64, first: usize, end: usize, bits: Bits) -> u
 
 // How many pages from first up to end of one group do, where top is the root's entry of it.
 fn count_group(words: &[u64], top: u64, first: usize, end: usize, bits: Bits) -> usize
-    requires { (first ≤ end) × (end ≤ 2 ^ 26) × (0 < bits.value) }
+    requires { (first ≤ end) × (end ≤ 2 ^ 26) }
     ensures { Over (alike bits.mask bits.value (page_under words.now top)) first end result }
 {
     if top == 0 {
@@ -67,16 +68,16 @@ fn count_group(words: &[u64], top: u64, first: usize, end: usize, bits: Bits) ->
     n
 }
 
-// How many pages from first up to end of a root have a level-0 word with these bits, whose value is not 0.
-pub fn count_pages(words: &[u64], root: usize, first: usize, end: usize, bits: Bits) -> usize
-    requires { (root < 512) × (first ≤ end) × (end ≤ 2 ^ 26) × (0 < bits.value) }
-    ensures { PagesAlike words.now root first end bits.mask bits.value result }
+// How many of these pages have a level-0 word with these bits.
+pub fn count_pages(words: &[u64], pages: RootPages, bits: Bits) -> usize
+    ensures { PagesAlike words.now pages.root pages.first pages.end bits.mask bits.value result }
 {
+    let end = pages.end;
     let mut n: usize = 0;
-    let mut page = first;
+    let mut page = pages.first;
     // No `for`: a step is as long as `run_of` answers.
     while page < end {
-        let m = 512 * root + page / 512 / 512 + 2;
+        let m = 512 * pages.root + page / 512 / 512 + 2;
         let next = (262144 * (page / 512 / 512 + run_of(words, m))).min(end);
         let top = slot_word(words, m);
         n += count_group(words, top, page, next, bits);

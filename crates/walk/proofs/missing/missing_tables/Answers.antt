@@ -14,16 +14,16 @@ pub overflow_add-n : goal.overflow_add-n
 overflow_add-n c =
     let a = c.args in
     let l = c.loop-group in
-    record { fits = counted_few a.words.now a.root a.first _ _ _ _ l.auto.group (omega arith) (omega arith) l.invariant.0 c.min-next.ensures _ _ l.invariant.1 c.group_missing-n.ensures (omega arith) }
+    record { fits = counted_few a.words.now a.pages.root a.pages.first _ _ _ _ l.auto.group (omega arith) (omega arith) l.invariant.0 c.min-next.ensures _ _ l.invariant.1 c.group_missing-n.ensures (omega arith) }
 
 pub loop-group-preserved : goal.loop-group-preserved
 loop-group-preserved c =
     let a = c.args in
     let l = c.loop-group in
-    (omega arith, counted_more a.words.now a.root a.first _ _ _ _ l.auto.group (omega arith) (omega arith) l.invariant.0 c.min-next.ensures _ _ l.invariant.1 c.group_missing-n.ensures)
+    (omega arith, counted_more a.words.now a.pages.root a.pages.first _ _ _ _ l.auto.group (omega arith) (omega arith) l.invariant.0 c.min-next.ensures _ _ l.invariant.1 c.group_missing-n.ensures)
 
 pub returns : goal.returns
 returns c =
     let a = c.args in
     let l = c.loop-group in
-    counted_all a.words.now a.root a.first a.end l.group _ c.if-end-first.false (omega arith) l.invariant.1
+    counted_all a.words.now a.pages.root a.pages.first a.pages.end l.group _ c.if-end-first.false (omega arith) l.invariant.1

@@ -11,7 +11,7 @@ use Rattle.walk.proofs.ranges.count_group.Goals as goal
 pub returns-then-top-eq0 : goal.returns-then-top-eq0
 returns-then-top-eq0 c =
     let p = c.requires in
-    group_low _ _ _ _ _ _ p.2 p.0 c.if-top-eq0.true
+    group_low _ _ _ _ _ _ c.args.bits.some p.0 c.if-top-eq0.true
 
 pub loop-page-init : goal.loop-page-init
 loop-page-init c = (search rules, search rules, over_none _ _)
@@ -27,7 +27,7 @@ count_block-n-requires c =
     let a = c.args in
     let run = c.run_of.ensures in
     let next = next_block c.loop-page.page a.end _ _ c.loop-page-test.true run.some c.min-next.ensures in
-    (next.0, λ h. omega (arith, next.2, run_one a.words.now _ _ run (omega (arith, c.slot_word-e.ensures))), c.requires.2)
+    (next.0, λ h. omega (arith, next.2, run_one a.words.now _ _ run (omega (arith, c.slot_word-e.ensures))))
 
 pub overflow_add-n : goal.overflow_add-n
 overflow_add-n c =

@@ -30,8 +30,8 @@ loop-page-preserved c =
     let run = c.run_of in (
       search rules,
       search rules,
-      over_next (page_under a.words.now top.result) (entry_in a.words.now a.root 2) a.bits.mask a.bits.value a.first _ _ _ _ l.0 (omega (arith, run.ensures.some))
-          (page_in_group a.words.now a.root _ _ _ _ run.ensures top.ensures (omega arith)) l.2 c.count_group-n.ensures,
+      over_next (page_under a.words.now top.result) (entry_in a.words.now a.pages.root 2) a.bits.mask a.bits.value a.pages.first _ _ _ _ l.0 (omega (arith, run.ensures.some))
+          (page_in_group a.words.now a.pages.root _ _ _ _ run.ensures top.ensures (omega arith)) l.2 c.count_group-n.ensures,
     )
 
 pub returns : goal.returns
