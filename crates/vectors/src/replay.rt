@@ -1,16 +1,17 @@
 // The rows, each made as a call here and held to what it says.
-ghost use Rattle.std.specs.Prelude.{◌+◌, ◌^◌, ◌<◌, ◌≤◌};
-
-use super::{calls, digest, list, rows, say};
+use super::answer;
+use super::call::{Call, UnknownCall};
+use super::memory::Memory;
+use super::row::{self, Row};
 use std::io;
 
-const EQUAL: u64 = 0;
-
-const LISTED: u64 = 1;
-
-const WRONG: u64 = 2;
-
-const FRESH: u64 = 3;
+// What came of a row: a fresh store, which is not counted, the Rust's answer, the listed refusal, or neither.
+enum Kind {
+    Fresh,
+    Equal,
+    Listed,
+    Wrong,
+}
 
 // How many rows came out as the Rust's answer, as the listed refusal, and otherwise.
 #[derive(Drop)]
@@ -21,64 +22,45 @@ pub struct Found {
 }
 
 // Makes the call of a row, and says what comes of it; where it is not as it must be, it is printed.
-fn kind(
-    rt: &impl Print,
-    row: usize,
-    words: &mut [u64],
-    tmarks: &mut [u32],
-    bytes: &mut [u8],
-    fmarks: &mut [u32],
-    lent: &mut [u8],
-) -> io::Result<u64> {
-    let reply = calls::made(row, words, tmarks, bytes, fmarks, lent);
-    let after = digest::digest(words, bytes, lent);
-    if !rows::agrees(row, reply, after) {
-        say::wrong(rt, row, reply, after)?;
-        return Ok(WRONG);
+fn kind_of(rt: &impl Print, index: usize, row: &Row, memory: &mut Memory) -> io::Result<Kind> {
+    memory.lend();
+    let reply = answer::made(row, memory);
+    let digest = memory.digest();
+    if !row.agrees(&reply, digest) {
+        let number = reply.number;
+        let value = reply.value;
+        println!(rt; "row {index}: number {number}, value 0x{value:x}, digest 0x{digest:x}")?;
+        return Ok(Kind::Wrong);
     }
-    if rows::call(row) == 0 {
-        return Ok(FRESH);
-    }
-    if rows::listed(row) != 0 {
-        return Ok(LISTED);
-    }
-    Ok(EQUAL)
-}
-
-// One more where it is so.
-fn counted(n: u64, so: bool) -> u64
-    requires { n < 2 ^ 63 }
-    ensures { result ≤ n + 1 }
-{
-    if so {
-        return n + 1;
-    }
-    n
+    Ok(match row.call {
+        Call::FreshStore => Kind::Fresh,
+        _ if row.is_listed => Kind::Listed,
+        _ => Kind::Equal,
+    })
 }
 
 // Every row in turn; those of a fresh store are not counted.
-pub fn all(
-    rt: &impl Print,
-    words: &mut [u64],
-    tmarks: &mut [u32],
-    bytes: &mut [u8],
-    fmarks: &mut [u32],
-    lent: &mut [u8],
-) -> io::Result<Found> {
-    let mut equal = 0;
-    let mut listed = 0;
-    let mut wrong = 0;
-    let mut row = 0;
-    while row < list::ROWS {
-        let kind = kind(rt, row, words, tmarks, bytes, fmarks, lent)?;
-        equal = counted(equal, kind == EQUAL);
-        listed = counted(listed, kind == LISTED);
-        wrong = counted(wrong, kind == WRONG);
-        row += 1;
+pub fn all(rt: &impl Print) -> io::Result<Found> {
+    let mut memory = Memory::new();
+    let mut found = Found {
+        equal: 0,
+        listed: 0,
+        wrong: 0,
+    };
+    for (index, columns) in row::all().iter().enumerate() {
+        let kind = match Row::try_from(*columns) {
+            Ok(row) => kind_of(rt, index, &row, &mut memory)?,
+            Err(UnknownCall(number)) => {
+                println!(rt; "row {index}: no call {number}")?;
+                Kind::Wrong
+            }
+        };
+        match kind {
+            Kind::Fresh => {}
+            Kind::Equal => found.equal += 1,
+            Kind::Listed => found.listed += 1,
+            Kind::Wrong => found.wrong += 1,
+        }
     }
-    Ok(Found {
-        equal,
-        listed,
-        wrong,
-    })
+    Ok(found)
 }
