@@ -1,11 +1,16 @@
 -- Why pages may not leave, from the counts of a judge. Assumes nothing.
 use mathlib.Core.Path.{◌≡◌, refl, subst}
-use mathlib.Core.Bool.{Bool, false}
+use mathlib.Core.Bool.{Bool, false, not}
+use mathlib.Core.Logic.{by_cases}
 use Prim.Native.Nat.{ℕ, ◌+◌, ◌-◌, ◌≤◌, ◌<◌}
+use native.Mathlib.Decide.{ℕ_discrete}
 use native.Mathlib.Omega.{arith}
+use lib.Dec.{eqb}
+use borrow.Author.Tests.{eq-eqb, ne_eqb}
 use Rattle.page_table_entry.specs.Layout.{flags}
 use Rattle.store.specs.Store.{Store}
 use Rattle.store.specs.Walk.{resolve}
+use Rattle.store.specs.Says.{Says}
 use Rattle.store.specs.Outcome.{Smallest}
 use Rattle.walk.specs.Mapped.{Mapped}
 use Rattle.walk.specs.Missing.{entry_in}
@@ -33,16 +38,19 @@ module _ (s : Store) (r p e : ℕ) (a : Asked s r p (e - p)) (l : p ≤ e) (free
   -- ---- pool frames
 
   module _ (c : ℕ) (count : PagesAlike s.words r p e 0xFFFF_FFFF_F800_0000 0x4000_0000 c) where
-    pub pool_met : freeing ≡ false → (c ≡ 0 → ⊥) → MeetsPool s r p (e - p) freeing
+    pool_met : freeing ≡ false → (c ≡ 0 → ⊥) → MeetsPool s r p (e - p) freeing
     pool_met f n =
         let q = one_has g 0xFFFF_FFFF_F800_0000 0x4000_0000 p e c l count (omega arith) in
         let x = after (λ (k : ℕ). PoolFrame s (resolve s r k)) q.0 q.1 q.2
         (counted_pool s a.at_root.sized r q.0 a.at_root.formed a.at_root.is_root (omega (arith, a.pages, q.2)) q.3) in
         (f, x.0, x.1, x.2)
 
-    pub pool_not_met : c ≡ 0 → MeetsPool s r p (e - p) freeing → ⊥
+    pool_not_met : c ≡ 0 → MeetsPool s r p (e - p) freeing → ⊥
     pool_not_met z (f, i, b, h) =
         none_has g 0xFFFF_FFFF_F800_0000 0x4000_0000 p e c l count z (p + i) (omega arith) (omega arith) (pool_counted s a.at_root.sized r (p + i) h)
+
+    pub pool_said : freeing ≡ false → Says (not (eqb c 0)) (MeetsPool s r p (e - p) freeing)
+    pool_said f = by_cases (ℕ_discrete c 0) (λ z. rw (eq-eqb c 0 z) (pool_not_met z)) (λ n. rw (ne_eqb c 0 n) (pool_met f n))
 
   -- ---- the reasons in order
 

@@ -1,10 +1,13 @@
 -- What the code of a slot and of a run does to words and frame marks, as the definitions say it of a store. Assumes nothing.
 use mathlib.Core.Path.{◌≡◌, sym, ap, ap₂, ◌∙◌}
 use mathlib.Core.Bool.{Bool, true, false, cond}
-use mathlib.Core.List.{List}
+use mathlib.Core.List.{List, ◌++◌}
 use Prim.Native.Nat.{ℕ, suc, ◌+◌, ◌-◌, ◌≤◌, ◌<◌}
 use native.Mathlib.Omega.{arith}
-use lib.ListN.{set, get_or}
+use lib.ListN.{length, set, get_or, take}
+use lib.Seq.{length-take-le}
+use borrow.Rule.Slice.PartMut.{mid_of, post_of, put_mid, mid_len, put_same}
+use Rattle.std.proofs.lemmas.List.{set-append_left, set-append_right, get_or_append_left, get_or-append_right}
 use borrow.Author.Tests.{le-leb, lt-leb}
 use Rattle.store.specs.Store.{Store, store_of, frame_no}
 use Rattle.store.specs.Walk.{slot_word}
@@ -22,42 +25,77 @@ pub given_one : (fs : List ℕ) (e : ℕ) → 0x11_0000 ≤ frame_no e → set f
 unfolding given_back
 given_one fs e h = rw (le-leb 0x11_0000 (frame_no e) h)
 
--- one slot, with freeing and without
-module _ (ws fs : List ℕ) (m e : ℕ) (h : 2 ≤ m) where
-  pub slot_freed : (freeing : Bool) (fs' : List ℕ) → freeing ≡ true → e ≡ slot_word ws m → fs' ≡ given_back fs e → FramesBecome ws fs (λ s. leave_slot s m freeing) (set ws (m - 2) 0) fs'
-  unfolding leave_slot
-  slot_freed freeing fs' f q k ms bs =
-      (λ i. store_of (put_in ws m 0 h i) ms bs ((k ∙ ap (given_back fs) q) i)) ∙ ap (λ (b : Bool). store_of (put_slot ws m 0) ms bs (cond b (given_back fs (slot_word ws m)) fs)) (sym f)
+-- one slot: its word was e, and the frame marks become fs'
+slot_left : (ws fs : List ℕ) (m e : ℕ) (freeing : Bool) (fs' : List ℕ) → 2 ≤ m → e ≡ get_or ws (m - 2) 0 → fs' ≡ cond freeing (given_back fs e) fs → FramesBecome ws fs (λ s. leave_slot s m freeing) (set ws (m - 2) 0) fs'
+unfolding leave_slot
+slot_left ws fs m e freeing fs' h q k ms bs =
+    let word : e ≡ slot_word ws m = q ∙ sym (slot_word_lem ws m h) in
+    (λ i. store_of (put_in ws m 0 h i) ms bs ((k ∙ ap (λ (x : ℕ). cond freeing (given_back fs x) fs) word) i))
 
-  pub slot_kept : (freeing : Bool) → freeing ≡ false → FramesBecome ws fs (λ s. leave_slot s m freeing) (set ws (m - 2) 0) fs
-  unfolding leave_slot
-  slot_kept freeing f ms bs =
-      (λ i. store_of (put_in ws m 0 h i) ms bs fs) ∙ ap (λ (b : Bool). store_of (put_slot ws m 0) ms bs (cond b (given_back fs (slot_word ws m)) fs)) (sym f)
+-- ---- the words of n slots from slot m on are lent as a part, and the whole with ys in its place
 
--- i of n slots are done, and ws and fs are words and frame marks so far
+abbrev pub lent : List ℕ → ℕ → ℕ → List ℕ
+lent ws m n = mid_of (m - 2) (m - 2 + n - (m - 2)) ws
+
+abbrev pub whole : List ℕ → ℕ → ℕ → List ℕ → List ℕ
+whole ws m n ys = put_mid (m - 2) (m - 2 + n - (m - 2)) ws ys
+
+-- i of n slots are done: the part is ys so far, and the frame marks are fs
 abbrev pub Going : List ℕ → List ℕ → ℕ → ℕ → Bool → List ℕ → List ℕ → ℕ → Type 0
-Going ws₀ fs₀ m n freeing ws fs i = (ms bs : List ℕ) → leave_run (store_of ws₀ ms bs fs₀) m n freeing ≡ leave_run (store_of ws ms bs fs) (m + i) (n - i) freeing
+Going ws₀ fs₀ m n freeing ys fs i = (ms bs : List ℕ) → leave_run (store_of ws₀ ms bs fs₀) m n freeing ≡ leave_run (store_of (whole ws₀ m n ys) ms bs fs) (m + i) (n - i) freeing
 
-pub run_start : (ws fs : List ℕ) (m n : ℕ) (freeing : Bool) → Going ws fs m n freeing ws fs 0
-run_start ws fs m n freeing ms bs =
-    let a : m ≡ m + 0 = omega arith in
-    let b : n ≡ n - 0 = omega arith in
-    ap₂ (λ (x y : ℕ). leave_run (store_of ws ms bs fs) x y freeing) a b
+module _ (ws₀ fs₀ : List ℕ) (m n : ℕ) (freeing : Bool) (room : (2 ≤ m) × (m + n ≤ 2 + length ws₀)) where
+  lent_length : length (lent ws₀ m n) ≡ n
+  lent_length = omega (arith, mid_len (m - 2) (m - 2 + n) ws₀ (omega (arith, room)))
 
-pub run_next : (ws₀ fs₀ : List ℕ) (m n : ℕ) (freeing : Bool) (ws fs : List ℕ) (i : ℕ) (ws' fs' : List ℕ) → Going ws₀ fs₀ m n freeing ws fs i → i < n
-    → FramesBecome ws fs (λ s. leave_slot s (m + i) freeing) ws' fs' → Going ws₀ fs₀ m n freeing ws' fs' (i + 1)
-unfolding leave_run
-run_next ws₀ fs₀ m n freeing ws fs i ws' fs' g l b ms bs =
-    let k : n - i ≡ suc (n - (i + 1)) = omega arith in
-    let a : suc (m + i) ≡ m + (i + 1) = omega arith in
-    g ms bs ∙ ap (λ (x : ℕ). leave_run (store_of ws ms bs fs) (m + i) x freeing) k
-    ∙ ap (λ (x : Store). leave_run x (suc (m + i)) (n - (i + 1)) freeing) (sym (b ms bs))
-    ∙ ap (λ (x : ℕ). leave_run (store_of ws' ms bs fs') x (n - (i + 1)) freeing) a
+  pub run_start : Going ws₀ fs₀ m n freeing (lent ws₀ m n) fs₀ 0
+  run_start ms bs =
+      let a : m ≡ m + 0 = omega arith in
+      let b : n ≡ n - 0 = omega arith in
+      ap₂ (λ (x y : ℕ). leave_run (store_of ws₀ ms bs fs₀) x y freeing) a b
+      ∙ ap (λ (ws : List ℕ). leave_run (store_of ws ms bs fs₀) (m + 0) (n - 0) freeing) (sym (put_same (m - 2) (m - 2 + n - (m - 2)) ws₀))
 
-pub run_done : (ws₀ fs₀ : List ℕ) (m n : ℕ) (freeing : Bool) (ws fs : List ℕ) (i : ℕ) → Going ws₀ fs₀ m n freeing ws fs i → n ≤ i → FramesBecome ws₀ fs₀ (λ s. leave_run s m n freeing) ws fs
-unfolding leave_run
-run_done ws₀ fs₀ m n freeing ws fs i g l ms bs = let k : n - i ≡ 0 = omega arith in sym (g ms bs ∙ ap (λ (x : ℕ). leave_run (store_of ws ms bs fs) (m + i) x freeing) k)
+  module _ (ys fs : List ℕ) (i : ℕ) (g : Going ws₀ fs₀ m n freeing ys fs i) where
+    module _ (j : i < length (lent ws₀ m n)) (l : length ys ≡ length (lent ws₀ m n)) where
+      abbrev rest : List ℕ
+      rest = post_of (m - 2) (m - 2 + n - (m - 2)) ws₀
 
--- the word that was read is that of the slot
-pub read : (ws : List ℕ) (m : ℕ) → 2 ≤ m → get_or ws (m - 2) 0 ≡ slot_word ws m
-read ws m h = sym (slot_word_lem ws m h)
+      before : length (take (m - 2) ws₀) ≡ m - 2
+      before = length-take-le (m - 2) ws₀ (omega (arith, room))
+
+      within : i < length ys
+      within = omega (arith, j, l)
+
+      at : m + i - 2 - (m - 2) ≡ i
+      at = omega (arith, room)
+
+      far : m - 2 ≤ m + i - 2
+      far = omega arith
+
+      -- a write in the part, and a read
+      wrote : set (whole ws₀ m n ys) (m + i - 2) 0 ≡ whole ws₀ m n (set ys i 0)
+      wrote =
+          set-append_right (take (m - 2) ws₀) (ys ++ rest) (m - 2) (m + i - 2) 0 before far ∙ ap (λ (k : ℕ). take (m - 2) ws₀ ++ set (ys ++ rest) k 0) at
+          ∙ ap (λ (x : List ℕ). take (m - 2) ws₀ ++ x) (set-append_left ys rest i 0 within)
+
+      read : get_or (whole ws₀ m n ys) (m + i - 2) 0 ≡ get_or ys i 0
+      read =
+          get_or-append_right (take (m - 2) ws₀) (ys ++ rest) (m - 2) (m + i - 2) 0 before far ∙ ap (λ (k : ℕ). get_or (ys ++ rest) k 0) at
+          ∙ get_or_append_left ys rest 0 i within
+
+      pub run_next : (fs' : List ℕ) → fs' ≡ cond freeing (given_back fs (get_or ys i 0)) fs → Going ws₀ fs₀ m n freeing (set ys i 0) fs' (i + 1)
+      unfolding leave_run
+      run_next fs' e ms bs =
+          let two : 2 ≤ m + i = omega (arith, room) in
+          let k : n - i ≡ suc (n - (i + 1)) = omega (arith, j, lent_length) in
+          let a : suc (m + i) ≡ m + (i + 1) = omega arith in
+          let went = slot_left (whole ws₀ m n ys) fs (m + i) (get_or ys i 0) freeing fs' two (sym read) e ms bs in
+          g ms bs ∙ ap (λ (x : ℕ). leave_run (store_of (whole ws₀ m n ys) ms bs fs) (m + i) x freeing) k
+          ∙ ap (λ (x : Store). leave_run x (suc (m + i)) (n - (i + 1)) freeing) (sym went)
+          ∙ ap₂ (λ (x : ℕ) (ws : List ℕ). leave_run (store_of ws ms bs fs') x (n - (i + 1)) freeing) a wrote
+
+    pub run_done : length (lent ws₀ m n) ≤ i → FramesBecome ws₀ fs₀ (λ s. leave_run s m n freeing) (whole ws₀ m n ys) fs
+    unfolding leave_run
+    run_done l ms bs =
+        let k : n - i ≡ 0 = omega (arith, l, lent_length) in
+        sym (g ms bs ∙ ap (λ (x : ℕ). leave_run (store_of (whole ws₀ m n ys) ms bs fs) (m + i) x freeing) k)

@@ -1,5 +1,5 @@
 -- The reasons of `uvm_unmap` in order, and what each way out of its judge says. Assumes nothing.
-use mathlib.Core.Path.{◌≡◌, refl}
+use mathlib.Core.Path.{◌≡◌, refl, subst}
 use mathlib.Core.Bool.{Bool}
 use Prim.Native.Nat.{ℕ, suc, ◌+◌, ◌-◌, ◌/◌, ◌%◌, ◌^◌, ◌≤◌, ◌<◌}
 use native.Mathlib.Nat.{le_refl}
@@ -14,7 +14,7 @@ use Rattle.page_table_entry.specs.Layout.{bit_v}
 use Rattle.store.specs.Store.{Store}
 use Rattle.store.specs.Walk.{resolve}
 use Rattle.store.specs.Outcome.{Smallest, NoReason, Judges}
-use Rattle.well_formed.specs.Root.{RootReason, RootReady}
+use Rattle.well_formed.specs.Root.{RootReason, RootReady, Asked}
 use Rattle.well_formed.proofs.RootReasons.{root_clear, root_first}
 use Rattle.unmap.specs.Leave.{LeaveReason, pooled, unmapped, bare, LeaveReady}
 use Rattle.unmap.specs.Unmap.{TooHigh, UnmapReason, at_root, too_high, unaligned, pages, UnmapReady}
@@ -46,6 +46,10 @@ leave_where s r p n freeing none = record {
 -- no pages are always ready
 pub leave_none : (s : Store) (r p n : ℕ) (freeing : Bool) → n ≡ 0 → LeaveReady s r p n freeing
 leave_none s r p n freeing h = record { foreign = λ m. omega (arith, m.2); mapped = λ i l. absurd (omega arith); full = λ i l. absurd (omega arith) }
+
+-- pages none of which lies too high may be asked about
+pub asked : (s : Store) (root p n : ℕ) → RootReady s root → (TooHigh p n → ⊥) → (n ≡ 0 → ⊥) → Asked s root p (p + n - p) × (p ≤ p + n)
+asked s root p n r t h = (record { at_root = r; pages = omega (arith, within p n (omega arith) t) }, omega arith)
 
 module _ (s : Store) (root va n : ℕ) (freeing : Bool) where
   abbrev R : ℕ → Type 0
@@ -88,13 +92,15 @@ module _ (s : Store) (root va n : ℕ) (freeing : Bool) where
         ready : LeaveReady s root (va / 4096) n freeing → F
         ready f = record { at_root = r; below = t; aligned = a; pages = f }
 
-        pub nothing : n ≡ 0 → F
-        nothing h =
-            (ready (leave_none s root (va / 4096) n freeing h))
-
         pub by_pages : (j : Result Unit Refusal) → Judges L (LeaveReady s root (va / 4096) n freeing) j → Judges R F j
         by_pages (Ok u) f = ready f
         by_pages (Err k) m = record { applies = pages m.applies; least = least (number_of k) (λ l. t) (λ l. a) m.least }
+
+        -- the judge of pages is asked about those from that of va up to the n-th after it
+        pub by_range : (j : Result Unit Refusal) → Judges (LeaveReason s root (va / 4096) (va / 4096 + n - va / 4096) freeing) (LeaveReady s root (va / 4096) (va / 4096 + n - va / 4096) freeing) j → Judges R F j
+        by_range j q =
+            let e : va / 4096 + n - va / 4096 ≡ n = omega arith in
+            by_pages j (subst (λ (k : ℕ). Judges (LeaveReason s root (va / 4096) k freeing) (LeaveReady s root (va / 4096) k freeing) j) e q)
 
   -- where the call is ready no reason applies
   pub clear : F → NoReason R

@@ -1,4 +1,4 @@
-// The judges of unmapping: the smallest refusal that applies, or 0. They only read.
+// The judges of unmapping: each refuses with the smallest reason that applies, or not. They only read.
 ghost use Rattle.std.specs.Prelude.{◌-◌, ◌^◌, ◌≤◌, ◌<◌};
 ghost use Rattle.store.specs.Outcome.{Judges};
 ghost use Rattle.store.specs.Says.{Says};
@@ -36,16 +36,10 @@ fn meets_pool(store: &Store, root: usize, first: usize, end: usize, freeing: boo
     ensures { Says result
         (MeetsPool (seen store.now) root first (end - first) freeing) }
 {
-    if freeing {
-        return false;
-    }
-    if walk::count_pages(store.words, root, first, end, IN_WINDOW) == 0 {
-        return false;
-    }
-    true
+    !freeing && walk::count_pages(store.words, root, first, end, IN_WINDOW) != 0
 }
 
-// 10, 11 or 13, or 0, for the pages from first up to end.
+// Refuses the pages from first up to end where one has a pool frame and freeing is off, is not mapped or has only V.
 pub fn judge_leave(
     store: &Store,
     root: usize,
@@ -76,16 +70,7 @@ fn too_high(first: u64, n: u64) -> bool
     requires { first < 2 ^ 52 }
     ensures { Says result (TooHigh first n) }
 {
-    if n == 0 {
-        return false;
-    }
-    if n > PAGES {
-        return true;
-    }
-    if first + n > PAGES {
-        return true;
-    }
-    false
+    n != 0 && (n > PAGES || first + n > PAGES)
 }
 
 pub fn judge_unmap(

@@ -1,7 +1,7 @@
 // The work of unmapping, which cannot fail: words become 0, and pool frames are given back.
 ghost use Rattle.std.specs.Prelude.{◌≡◌, ◌+◌, ◌<◌, ◌≤◌, length};
 ghost use Rattle.store.specs.Store.{Store, store_of};
-ghost use Rattle.unmap.specs.Leave.{given_back, leave_slot, leave_run, leave_pages, FramesBecome, CanLeave};
+ghost use Rattle.unmap.specs.Leave.{given_back, leave_run, leave_pages, FramesBecome, CanLeave};
 
 // Entry e has gone: the pool frame that it names, if it names one, is free again.
 fn give_back(fmarks: &mut [u32], e: u64)
@@ -14,27 +14,17 @@ fn give_back(fmarks: &mut [u32], e: u64)
     enter::put_mark(fmarks, frame - 0x11_0000, 0);
 }
 
-// The word in slot m becomes 0; with freeing, its pool frame is given back.
-fn leave_slot(words: &mut [u64], fmarks: &mut [u32], m: usize, freeing: bool)
-    requires { (2 ≤ m) × (m < 2 + length words.old) }
-    ensures { FramesBecome words.old fmarks.old (λ (s : Store). leave_slot s m freeing) words.new fmarks.new }
-{
-    let e = words[m - 2];
-    words[m - 2] = 0;
-    if freeing {
-        give_back(fmarks, e);
-    }
-}
-
-// The same for n slots from slot m on.
+// The words of n slots from slot m on become 0; with freeing, their pool frames are given back.
 fn leave_run(words: &mut [u64], fmarks: &mut [u32], m: usize, n: usize, freeing: bool)
     requires { (2 ≤ m) × (m + n ≤ 2 + length words.old) }
     ensures { FramesBecome words.old fmarks.old (λ (s : Store). leave_run s m n freeing) words.new fmarks.new }
 {
-    let mut i = 0;
-    while i < n {
-        leave_slot(words, fmarks, m + i, freeing);
-        i += 1;
+    let w = m - 2;
+    for word in &mut words[w..w + n] {
+        if freeing {
+            give_back(fmarks, *word);
+        }
+        *word = 0;
     }
 }
 

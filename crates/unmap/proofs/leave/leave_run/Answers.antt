@@ -1,23 +1,24 @@
--- `unmap::leave::leave_run` meets its contract. The invariant: the slots before i are done. Assumes nothing.
-use native.Mathlib.Omega.{arith}
+-- `unmap::leave::leave_run` meets its contract. The invariant: the slots before the index are done. Assumes nothing.
+use mathlib.Core.Path.{◌≡◌, ◌∙◌}
+use mathlib.Core.Bool.{cond}
+use lib.ListN.{get_or}
+use Rattle.unmap.specs.Leave.{given_back}
 use Rattle.unmap.proofs.LeaveSlots.{run_start, run_next, run_done}
-use borrow.Author.Rules.{rules}
+use Rattle.unmap.proofs.leave.leave_run.Goals.{then-freeing, else-freeing}
 use Rattle.unmap.proofs.leave.leave_run.Goals as goal
 
-pub loop-i-init : goal.loop-i-init
-loop-i-init c =
-    let a = c.args in
-    (omega arith, search rules, search rules, run_start a.words.now a.fmarks.now a.m a.n a.freeing)
+pub loop-word-init : goal.loop-word-init
+loop-word-init c = run_start _ _ _ _ _ c.requires
 
-pub loop-i-preserved : goal.loop-i-preserved
-loop-i-preserved c =
-    let a = c.args in
-    let l = c.loop-i in
-    let w = c.leave_slot in
-    (search rules, search rules, search rules, run_next a.words.now a.fmarks.now a.m a.n a.freeing l.words l.fmarks l.i _ _ l.invariant.3 c.loop-i-test.true w.ensures)
+pub loop-word-preserved : goal.loop-word-preserved
+loop-word-preserved c =
+    let l = c.loop-word in
+    let marks : c.if-freeing.fmarks ≡ cond c.args.freeing (given_back l.fmarks (get_or l.word-items l.word-index 0)) l.fmarks =
+    elim c.if-freeing.branch [
+      then-freeing w ↦ rw w.if-freeing.true (w.fmarks-is ∙ w.give_back.ensures)
+      | else-freeing w ↦ rw w.if-freeing.false w.fmarks-is
+    ] in
+    run_next _ _ _ _ _ c.requires _ _ _ l.invariant c.loop-word-test.true l.auto.word-items _ marks
 
 pub returns : goal.returns
-returns c =
-    let a = c.args in
-    let l = c.loop-i in
-    run_done a.words.now a.fmarks.now a.m a.n a.freeing l.words l.fmarks l.i l.invariant.3 c.loop-i-test.false
+returns c = run_done _ _ _ _ _ c.requires _ _ _ c.loop-word.invariant c.loop-word-test.false

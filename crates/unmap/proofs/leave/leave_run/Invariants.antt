@@ -1,13 +1,6 @@
--- The invariants of the loops.
-use mathlib.Core.Path.{◌≡◌}
-use Prim.Native.Nat.{◌-◌, ◌≤◌}
-use lib.ListN.{length}
+-- The invariant of the loop.
 use Rattle.unmap.proofs.LeaveSlots.{Going}
 use Rattle.unmap.proofs.leave.leave_run.Given as goal
 
-abbrev pub invariant-loop-i : goal.invariant-loop-i
-invariant-loop-i l =
-    (l.i ≤ l.n) × (length l.words ≡ length l.initial.words) × (length l.fmarks ≡ length l.initial.fmarks) × Going l.initial.words l.initial.fmarks l.m l.n l.freeing l.words l.fmarks l.i
-
-abbrev pub decreases-loop-i : goal.decreases-loop-i
-decreases-loop-i l = l.n - l.i
+abbrev pub invariant-loop-word : goal.invariant-loop-word
+invariant-loop-word l = Going l.fn.words l.fn.fmarks l.m l.n l.freeing l.word-items l.fmarks l.word-index
