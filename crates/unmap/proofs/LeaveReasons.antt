@@ -2,7 +2,7 @@
 use mathlib.Core.Path.{◌≡◌, refl, subst}
 use mathlib.Core.Bool.{Bool, false, not}
 use mathlib.Core.Logic.{by_cases}
-use Prim.Native.Nat.{ℕ, ◌+◌, ◌-◌, ◌≤◌, ◌<◌}
+use Prim.Native.Nat.{ℕ, ◌+◌, ◌-◌, ◌^◌, ◌≤◌, ◌<◌}
 use native.Mathlib.Decide.{ℕ_discrete}
 use native.Mathlib.Omega.{arith}
 use lib.Dec.{eqb}
@@ -17,11 +17,11 @@ use Rattle.walk.specs.Missing.{entry_in}
 use Rattle.walk.specs.Ranges.{PagesAlike}
 use Rattle.walk.proofs.Counts.{one_has, one_lacks, none_has, all_have}
 use Rattle.walk.proofs.Pages.{counted_mapped, mapped_counted}
-use Rattle.well_formed.specs.Root.{Asked}
+use Rattle.well_formed.specs.Root.{RootReady}
 use Rattle.unmap.specs.Leave.{PoolFrame, MeetsPool, LeaveReason, pooled, unmapped, bare, LeaveReady}
 use Rattle.unmap.proofs.PoolLaws.{pool_counted, counted_pool, counted_bare, bare_counted}
 
-module _ (s : Store) (r p e : ℕ) (a : Asked s r p (e - p)) (l : p ≤ e) (freeing : Bool) where
+module _ (s : Store) (r p e : ℕ) (ready : RootReady s r) (l : p ≤ e) (within : e ≤ 2 ^ 26) (freeing : Bool) where
   abbrev R : ℕ → Type 0
   R = LeaveReason s r p (e - p) freeing
 
@@ -42,12 +42,12 @@ module _ (s : Store) (r p e : ℕ) (a : Asked s r p (e - p)) (l : p ≤ e) (free
     pool_met f n =
         let q = one_has g 0xFFFF_FFFF_F800_0000 0x4000_0000 p e c l count (omega arith) in
         let x = after (λ (k : ℕ). PoolFrame s (resolve s r k)) q.0 q.1 q.2
-        (counted_pool s a.at_root.sized r q.0 a.at_root.formed a.at_root.is_root (omega (arith, a.pages, q.2)) q.3) in
+        (counted_pool s ready.sized r q.0 ready.formed ready.is_root (omega (arith, within, q.2)) q.3) in
         (f, x.0, x.1, x.2)
 
     pool_not_met : c ≡ 0 → MeetsPool s r p (e - p) freeing → ⊥
     pool_not_met z (f, i, b, h) =
-        none_has g 0xFFFF_FFFF_F800_0000 0x4000_0000 p e c l count z (p + i) (omega arith) (omega arith) (pool_counted s a.at_root.sized r (p + i) h)
+        none_has g 0xFFFF_FFFF_F800_0000 0x4000_0000 p e c l count z (p + i) (omega arith) (omega arith) (pool_counted s ready.sized r (p + i) h)
 
     pub pool_said : freeing ≡ false → Says (not (eqb c 0)) (MeetsPool s r p (e - p) freeing)
     pool_said f = by_cases (ℕ_discrete c 0) (λ z. rw (eq-eqb c 0 z) (pool_not_met z)) (λ n. rw (ne_eqb c 0 n) (pool_met f n))
@@ -77,9 +77,9 @@ module _ (s : Store) (r p e : ℕ) (a : Asked s r p (e - p)) (l : p ≤ e) (free
       pub no_13 : (d ≡ 0 → ⊥) → Smallest R 13
       no_13 n =
           let q = one_has g 1023 1 p e d l bares (omega arith) in
-          let x = after (λ (k : ℕ). flags (resolve s r k) ≡ 1) q.0 q.1 q.2 (counted_bare s a.at_root.sized r q.0 q.3) in
+          let x = after (λ (k : ℕ). flags (resolve s r k) ≡ 1) q.0 q.1 q.2 (counted_bare s ready.sized r q.0 q.3) in
           record { applies = bare x.0 x.1 x.2; least = least 13 (λ _. f) (λ _. mapped) (λ q. absurd (omega arith)) }
 
       pub all_ready : d ≡ 0 → F
       all_ready z =
-          record { foreign = f; mapped = mapped; full = λ i x b. none_has g 1023 1 p e d l bares z (p + i) (omega arith) (omega arith) (bare_counted s a.at_root.sized r (p + i) b) }
+          record { foreign = f; mapped = mapped; full = λ i x b. none_has g 1023 1 p e d l bares z (p + i) (omega arith) (omega arith) (bare_counted s ready.sized r (p + i) b) }

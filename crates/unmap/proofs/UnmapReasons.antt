@@ -14,8 +14,9 @@ use Rattle.page_table_entry.specs.Layout.{bit_v}
 use Rattle.store.specs.Store.{Store}
 use Rattle.store.specs.Walk.{resolve}
 use Rattle.store.specs.Outcome.{Smallest, NoReason, Judges}
-use Rattle.well_formed.specs.Root.{RootReason, RootReady, Asked}
+use Rattle.well_formed.specs.Root.{RootReason, RootReady}
 use Rattle.well_formed.proofs.RootReasons.{root_clear, root_first}
+use Rattle.walk.proofs.Calls.{root_in}
 use Rattle.unmap.specs.Leave.{LeaveReason, pooled, unmapped, bare, LeaveReady}
 use Rattle.unmap.specs.Unmap.{TooHigh, UnmapReason, at_root, too_high, unaligned, pages, UnmapReady}
 
@@ -47,9 +48,9 @@ leave_where s r p n freeing none = record {
 pub leave_none : (s : Store) (r p n : ℕ) (freeing : Bool) → n ≡ 0 → LeaveReady s r p n freeing
 leave_none s r p n freeing h = record { foreign = λ m. omega (arith, m.2); mapped = λ i l. absurd (omega arith); full = λ i l. absurd (omega arith) }
 
--- pages none of which lies too high may be asked about
-pub asked : (s : Store) (root p n : ℕ) → RootReady s root → (TooHigh p n → ⊥) → (n ≡ 0 → ⊥) → Asked s root p (p + n - p) × (p ≤ p + n)
-asked s root p n r t h = (record { at_root = r; pages = omega (arith, within p n (omega arith) t) }, omega arith)
+-- pages none of which lies too high are pages of a root
+pub in_reach : (s : Store) (root p n : ℕ) → RootReady s root → (TooHigh p n → ⊥) → (n ≡ 0 → ⊥) → (root < 512) × (p ≤ p + n) × (p + n ≤ 2 ^ 26)
+in_reach s root p n r t h = (root_in s root r.sized r.is_root, omega arith, within p n (omega arith) t)
 
 module _ (s : Store) (root va n : ℕ) (freeing : Bool) where
   abbrev R : ℕ → Type 0

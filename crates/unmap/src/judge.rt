@@ -3,14 +3,14 @@ ghost use Rattle.std.specs.Prelude.{◌-◌, ◌^◌, ◌≤◌, ◌<◌};
 ghost use Rattle.store.specs.Outcome.{Judges};
 ghost use Rattle.store.specs.Says.{Says};
 ghost use Rattle.store.specs.Store.{seen};
-ghost use Rattle.well_formed.specs.Root.{Asked};
+ghost use Rattle.well_formed.specs.Root.{RootReady};
 ghost use Rattle.unmap.specs.Leave.{MeetsPool, LeaveReason, LeaveReady};
 ghost use Rattle.unmap.specs.Unmap.{TooHigh, UnmapReason, UnmapReady};
 
 use address::VirtualAddress;
 use refusal::Refusal;
 use store::Store;
-use walk::Bits;
+use walk::{Bits, RootPages};
 
 const PAGES: u64 = 1 << 26;
 
@@ -30,36 +30,30 @@ const V_ALONE: Bits = Bits {
     value: 1,
 };
 
-// Whether, without freeing, one of the pages from first up to end has a pool frame.
-fn meets_pool(store: &Store, root: usize, first: usize, end: usize, freeing: bool) -> bool
-    requires { Asked (seen store.now) root first (end - first) × (first ≤ end) }
+// Whether, without freeing, one of these pages has a pool frame.
+fn meets_pool(store: &Store, pages: RootPages, freeing: bool) -> bool
+    requires { RootReady (seen store.now) pages.root }
     ensures { Says result
-        (MeetsPool (seen store.now) root first (end - first) freeing) }
+        (MeetsPool (seen store.now) pages.root pages.first (pages.end - pages.first) freeing) }
 {
-    !freeing && walk::count_pages(store.words, root, first, end, IN_WINDOW) != 0
+    !freeing && walk::count_pages(store.words, pages, IN_WINDOW) != 0
 }
 
-// Refuses the pages from first up to end where one has a pool frame and freeing is off, is not mapped or has only V.
-pub fn judge_leave(
-    store: &Store,
-    root: usize,
-    first: usize,
-    end: usize,
-    freeing: bool,
-) -> Result<(), Refusal>
-    requires { Asked (seen store.now) root first (end - first) × (first ≤ end) }
+// Refuses these pages where one has a pool frame and freeing is off, is not mapped or has only V.
+pub fn judge_leave(store: &Store, pages: RootPages, freeing: bool) -> Result<(), Refusal>
+    requires { RootReady (seen store.now) pages.root }
     ensures { Judges
-        (LeaveReason (seen store.now) root first (end - first) freeing)
-        (LeaveReady (seen store.now) root first (end - first) freeing)
+        (LeaveReason (seen store.now) pages.root pages.first (pages.end - pages.first) freeing)
+        (LeaveReady (seen store.now) pages.root pages.first (pages.end - pages.first) freeing)
         result }
 {
-    if meets_pool(store, root, first, end, freeing) {
+    if meets_pool(store, pages, freeing) {
         return Err(Refusal::HeldWindow);
     }
-    if walk::count_pages(store.words, root, first, end, Bits::VALID) < end - first {
+    if walk::count_pages(store.words, pages, Bits::VALID) < pages.end - pages.first {
         return Err(Refusal::NotMapped);
     }
-    if walk::count_pages(store.words, root, first, end, V_ALONE) != 0 {
+    if walk::count_pages(store.words, pages, V_ALONE) != 0 {
         return Err(Refusal::OnlyValid);
     }
     Ok(())
@@ -96,11 +90,10 @@ pub fn judge_unmap(
     if n == 0 {
         return Ok(());
     }
-    judge_leave(
-        store,
-        root as usize,
-        first as usize,
-        (first + n) as usize,
-        freeing,
-    )
+    let pages = RootPages {
+        root: root as usize,
+        first: first as usize,
+        end: (first + n) as usize,
+    };
+    judge_leave(store, pages, freeing)
 }
