@@ -53,6 +53,7 @@ fn measure(store: &Store, root: usize, va: u64, max: usize) -> Result<StrRead, R
     ensures { Measures (seen store.now) root va max result }
 {
     let mut i = 0;
+    // No `for`: a part ends with its page, and where max is 0 one page is judged all the same.
     loop {
         let a = va + (i as u64);
         copies::judge_page(store, root, a)?;
