@@ -21,6 +21,7 @@ pub fn read_bytes(store: &Store, root: usize, va: u64, dst: &mut [u8])
     ensures { dst.new ≡ bytes_at (seen store.now) root va (length dst.old) }
 {
     let mut i = 0;
+    // No `for`: a part ends with its page, so the first is shorter than those behind it.
     while i < dst.len() {
         let a = va + (i as u64);
         let k = (4096 - (a % 4096) as usize).min(dst.len() - i);
@@ -44,6 +45,7 @@ pub fn write_bytes(
     ensures { bytes.new ≡ written (store_of words.now tmarks.now bytes.old fmarks.now) root va src.now bytes.old }
 {
     let mut i = 0;
+    // No `for`: a part ends with its page, so the first is shorter than those behind it.
     while i < src.len() {
         let a = va + (i as u64);
         let k = (4096 - (a % 4096) as usize).min(src.len() - i);

@@ -1,4 +1,4 @@
-// The judges of the pages that a copy needs: the smallest refusal that applies, or 0. They only read.
+// The judges of the pages that a copy needs: the smallest refusal that applies, if one does. They only read.
 ghost use Rattle.std.specs.Prelude.{◌≡◌, suc, ◌+◌, ◌-◌, ◌/◌, ◌^◌, ◌≤◌, ◌<◌};
 ghost use Rattle.store.specs.Outcome.{Judges};
 ghost use Rattle.store.specs.Store.{seen};
@@ -8,17 +8,16 @@ ghost use Rattle.copies.specs.Needed.{PageReason, PageReady, CopyReason, CopyRea
 use address::MAXVA;
 use refusal::Refusal;
 use store::Store;
-use unmap::{FRAME_PART, IN_WINDOW, WINDOW};
+use unmap::IN_WINDOW;
 use walk::Bits;
 
-// The bits V and U of a word.
-const V: u64 = 1;
+// Bit 4, which is U.
+const USER: Bits = Bits {
+    mask: 16,
+    value: 16,
+};
 
-const U: u64 = 16;
-
-const USER: Bits = Bits { mask: U, value: U };
-
-// 6, 11, 12 or 15, or 0, for the page of address a.
+// Refuses the page of address a by the smallest of 6, 11, 12 and 15 that applies.
 pub fn judge_page(store: &Store, root: usize, a: u64) -> Result<(), Refusal>
     requires { RootReady (seen store.now) root }
     ensures { Judges
@@ -33,13 +32,13 @@ pub fn judge_page(store: &Store, root: usize, a: u64) -> Result<(), Refusal>
         store.words,
         walk::slot_of(store.words, root, (a / 4096) as usize),
     );
-    if e & V != V {
+    if !Bits::VALID.matches(e) {
         return Err(Refusal::NotMapped);
     }
-    if e & U != U {
+    if !USER.matches(e) {
         return Err(Refusal::NotUser);
     }
-    if e & FRAME_PART != WINDOW {
+    if !IN_WINDOW.matches(e) {
         return Err(Refusal::NoPoolFrame);
     }
     Ok(())
@@ -50,13 +49,10 @@ fn pages_end(va: u64, n: u64) -> usize
     requires { (va < 2 ^ 38) × (va + n ≤ 2 ^ 38) }
     ensures { result ≡ suc ((va + (n - 1)) / 4096) }
 {
-    if n == 0 {
-        return (va / 4096 + 1) as usize;
-    }
-    ((va + (n - 1)) / 4096 + 1) as usize
+    ((va + n.saturating_sub(1)) / 4096 + 1) as usize
 }
 
-// The smallest refusal that applies to n bytes from va on, or 0.
+// Refuses n bytes from va on by the smallest refusal that applies.
 pub fn judge_copy(store: &Store, root: u64, va: u64, n: usize) -> Result<(), Refusal>
     ensures { Judges
         (CopyReason (seen store.now) root va n)

@@ -1,4 +1,5 @@
 -- The laws of `copy_in_str`.
+pub mod ZeroLaws
 pub mod StrLaws
 pub mod TextCode
 pub mod TextReasons

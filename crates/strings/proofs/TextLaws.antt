@@ -1,5 +1,5 @@
 -- What each way out of `copy_in_str` says, that two answers to one call are the same, and what a success means. Assumes nothing.
-use mathlib.Core.Path.{◌≡◌, refl, sym, ap, ap₂, subst, ◌∙◌}
+use mathlib.Core.Path.{◌≡◌, sym, ap, subst, ◌∙◌}
 use mathlib.Core.Bool.{Bool}
 use mathlib.Core.List.{List, ◌++◌}
 use mathlib.Core.Logic.{inl, inr, ⊎_elim}
@@ -15,7 +15,7 @@ use Rattle.refusal.specs.Number.{number_of}
 use Rattle.refusal.proofs.Numbers.{one_number}
 use Rattle.store.specs.Store.{Store}
 use Rattle.store.proofs.Outcomes.{one_smallest}
-use Rattle.well_formed.specs.Root.{RootReason, RootReady}
+use Rattle.well_formed.specs.Root.{RootReady}
 use Rattle.copies.specs.Bytes.{byte_at, bytes_at}
 use Rattle.copies.specs.Needed.{CopyReady}
 use Rattle.strings.specs.Str.{StrReason, StrDone, Measured, Str}

@@ -1,7 +1,6 @@
 // A string from a process to the kernel, after `copy_in_str` of page_table.rs: measured and judged, then copied.
-ghost use Rattle.std.specs.Prelude.{◌≡◌, ◌≤◌, ◌<◌, length};
+ghost use Rattle.std.specs.Prelude.{◌≡◌, ◌==◌, ◌≤◌, ◌<◌, length};
 ghost use Rattle.store.specs.Count.{lowest};
-ghost use Rattle.store.specs.Says.{Says};
 ghost use Rattle.store.specs.Store.{seen};
 ghost use Rattle.well_formed.specs.Root.{RootReady};
 ghost use Rattle.strings.specs.Str.{Str, Measures};
@@ -11,63 +10,41 @@ use address::VirtualAddress;
 use refusal::Refusal;
 use store::Store;
 
-// Whether no byte from a up to e is zero, where none before a is: their least, found without a branch for a byte.
-fn no_zero(part: &[u8], a: usize, e: usize) -> bool
-    requires { (a ≤ lowest part.now) × (a ≤ e) × (e ≤ length part.now) }
-    ensures { Says result (e ≤ lowest part.now) }
+// Whether no byte is zero, by their least: no branch for a byte.
+fn no_zero(part: &[u8]) -> bool
+    ensures { result ≡ (lowest part.now == length part.now) }
 {
-    let mut least: u8 = 255;
-    let mut i = a;
-    while i < e {
-        let x = part[i];
-        i += 1;
-        if x < least {
-            least = x;
-        }
-    }
-    if least == 0 {
-        return false;
-    }
-    true
+    part.iter().fold(255, |least: u8, byte| least.min(*byte)) != 0
 }
 
-// Goes on from a place before which no byte is zero, by as many whole steps as have no zero.
-fn skip(part: &[u8], from: usize, step: usize) -> usize
-    requires { (from ≤ lowest part.now) × (0 < step) }
+// How many bytes there are in the whole steps from the start on that have no zero.
+fn skip(part: &[u8], step: usize) -> usize
+    requires { 0 < step }
     ensures { result ≤ lowest part.now }
 {
-    let mut i = from;
-    while part.len() - i >= step {
-        if !no_zero(part, i, i + step) {
-            return i;
-        }
-        i += step;
-    }
-    i
+    step * part
+        .chunks_exact(step)
+        .take_while(|chunk| no_zero(chunk))
+        .count()
 }
 
-// The place of the first zero, or the length where there is none; it is known that none before from is zero.
-fn zero_from(part: &[u8], from: usize) -> usize
-    requires { from ≤ lowest part.now }
+// The place of the first zero, or the length where there is none, byte by byte.
+fn zero_in(part: &[u8]) -> usize
     ensures { result ≡ lowest part.now }
 {
-    let mut i = from;
-    while i < part.len() {
-        if part[i] == 0 {
-            return i;
-        }
-        i += 1;
-    }
-    i
+    part.iter()
+        .position(|byte| *byte == 0)
+        .unwrap_or(part.len())
 }
 
-// The same where nothing is known: by long steps, then by short ones, and at last byte by byte.
+// The same by long steps, then by short ones, and at last byte by byte.
+#[tactic(auto, using(store::proofs::Free::lowest_behind, store::proofs::Free::lowest_le))]
 fn first_zero(part: &[u8]) -> usize
     ensures { result ≡ lowest part.now }
 {
-    let long = skip(part, 0, 512);
-    let short = skip(part, long, 64);
-    zero_from(part, short)
+    let long = skip(part, 512);
+    let short = long + skip(&part[long..], 64);
+    short + zero_in(&part[short..])
 }
 
 // Follows at most max bytes from va on, page by page, up to the first zero.
@@ -76,6 +53,7 @@ fn measure(store: &Store, root: usize, va: u64, max: usize) -> Result<StrRead, R
     ensures { Measures (seen store.now) root va max result }
 {
     let mut i = 0;
+    // No `for`: a part ends with its page, and where max is 0 one page is judged all the same.
     loop {
         let a = va + (i as u64);
         copies::judge_page(store, root, a)?;

@@ -15,13 +15,9 @@ use walk::{Bits, RootPages};
 const PAGES: u64 = 1 << 26;
 
 // A word whose bits from 27 on are 8 names a frame of the held window.
-pub const FRAME_PART: u64 = 0xFFFF_FFFF_F800_0000;
-
-pub const WINDOW: u64 = 0x4000_0000;
-
 pub const IN_WINDOW: Bits = Bits {
-    mask: FRAME_PART,
-    value: WINDOW,
+    mask: 0xFFFF_FFFF_F800_0000,
+    value: 0x4000_0000,
 };
 
 // All flags of a word are V alone.

@@ -5,6 +5,6 @@ mod judge;
 mod leave;
 mod unmapping;
 
-pub use judge::{FRAME_PART, IN_WINDOW, WINDOW, judge_leave, judge_unmap};
+pub use judge::{IN_WINDOW, judge_leave, judge_unmap};
 pub use leave::leave_pages;
 pub use unmapping::{uvm_clear, uvm_unmap};
