@@ -9,7 +9,7 @@ use address::MAXVA;
 use refusal::Refusal;
 use store::Store;
 use unmap::IN_WINDOW;
-use walk::Bits;
+use walk::{Bits, RootPages};
 
 // Bit 4, which is U.
 const USER: Bits = Bits {
@@ -66,16 +66,20 @@ pub fn judge_copy(store: &Store, root: u64, va: u64, n: usize) -> Result<(), Ref
     if n as u64 > MAXVA - va {
         return Err(Refusal::TooHigh);
     }
-    let r = root as usize;
     let first = (va / 4096) as usize;
     let end = pages_end(va, n as u64);
-    if walk::count_pages(store.words, r, first, end, Bits::VALID) < end - first {
+    let pages = RootPages {
+        root: root as usize,
+        first,
+        end,
+    };
+    if walk::count_pages(store.words, pages, Bits::VALID) < end - first {
         return Err(Refusal::NotMapped);
     }
-    if walk::count_pages(store.words, r, first, end, USER) < end - first {
+    if walk::count_pages(store.words, pages, USER) < end - first {
         return Err(Refusal::NotUser);
     }
-    if walk::count_pages(store.words, r, first, end, IN_WINDOW) < end - first {
+    if walk::count_pages(store.words, pages, IN_WINDOW) < end - first {
         return Err(Refusal::NoPoolFrame);
     }
     Ok(())

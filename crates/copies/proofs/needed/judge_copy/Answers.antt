@@ -21,12 +21,11 @@ returns-then-n-va c =
     let f = c.in_ok-judge_root.ensures in
     no_6_end (seen a.store.now) a.root a.va a.n f c.if-va-ge-MAXVA.false c.if-n-va.true
 
-pub count_pages-requires : goal.count_pages-requires
-count_pages-requires c =
-    let a = c.args in
+pub invariant_of-pages : goal.invariant_of-pages
+invariant_of-pages c =
     let f = c.in_ok-judge_root.ensures in
-    let p = pages (seen a.store.now) a.root a.va a.n f c.if-va-ge-MAXVA.false c.if-n-va.false _ c.pages_end-end.ensures in
-    (root_in (seen a.store.now) a.root f.sized f.is_root, p.0, p.1, omega arith)
+    let p = pages _ _ _ _ f c.if-va-ge-MAXVA.false c.if-n-va.false _ c.pages_end-end.ensures in
+    record { of_a_table = root_in _ _ f.sized f.is_root; in_order = p.0; within = p.1 }
 
 pub returns-then-count_pages-end : goal.returns-then-count_pages-end
 returns-then-count_pages-end c =
@@ -34,25 +33,11 @@ returns-then-count_pages-end c =
     let f = c.in_ok-judge_root.ensures in
     no_11 (seen a.store.now) a.root a.va a.n f c.if-va-ge-MAXVA.false c.if-n-va.false _ c.pages_end-end.ensures _ c.count_pages.ensures c.if-count_pages-end.true
 
-pub count_pages-requires-2 : goal.count_pages-requires-2
-count_pages-requires-2 c =
-    let a = c.args in
-    let f = c.in_ok-judge_root.ensures in
-    let p = pages (seen a.store.now) a.root a.va a.n f c.if-va-ge-MAXVA.false c.if-n-va.false _ c.pages_end-end.ensures in
-    (root_in (seen a.store.now) a.root f.sized f.is_root, p.0, p.1, omega arith)
-
 pub returns-then-count_pages-end-2 : goal.returns-then-count_pages-end-2
 returns-then-count_pages-end-2 c =
     let a = c.args in
     let f = c.in_ok-judge_root.ensures in
     no_12 (seen a.store.now) a.root a.va a.n f c.if-va-ge-MAXVA.false c.if-n-va.false _ c.pages_end-end.ensures _ c.count_pages.ensures c.if-count_pages-end.false _ c.count_pages-2.ensures c.if-count_pages-end-2.true
-
-pub count_pages-requires-3 : goal.count_pages-requires-3
-count_pages-requires-3 c =
-    let a = c.args in
-    let f = c.in_ok-judge_root.ensures in
-    let p = pages (seen a.store.now) a.root a.va a.n f c.if-va-ge-MAXVA.false c.if-n-va.false _ c.pages_end-end.ensures in
-    (root_in (seen a.store.now) a.root f.sized f.is_root, p.0, p.1, omega arith)
 
 pub returns-then-count_pages-end-3 : goal.returns-then-count_pages-end-3
 returns-then-count_pages-end-3 c =
