@@ -1,6 +1,5 @@
 -- Which case of a definition by tests a fact picks, and what a caller learns of an answer that it took apart. Assumes nothing.
-use mathlib.Core.Path.{◌≡◌, ap}
-use mathlib.Core.Path.{◌∙◌}
+use mathlib.Core.Path.{◌≡◌, ap, ◌∙◌}
 use Prim.Native.Nat.{ℕ, ◌-◌, ◌^◌, ◌<◌, ◌≤◌}
 use native.Mathlib.Omega.{arith}
 use lib.ListN.{get_or, length}

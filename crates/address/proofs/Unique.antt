@@ -4,7 +4,6 @@ use mathlib.Core.List.{List, [], ◌∷◌}
 use Prim.Native.Nat.{ℕ}
 use Rattle.std.specs.Prelude.{Result, Ok, Err}
 use Rattle.refusal.specs.declared.Refusal.{Refusal}
-use Rattle.refusal.specs.Number.{number_of}
 use Rattle.refusal.proofs.Numbers.{refusal_of, read_back}
 use Rattle.address.specs.declared.kinds.VirtualAddress.{VirtualAddress}
 use Rattle.address.specs.declared.kinds.PhysicalAddress.{PhysicalAddress}

@@ -1,19 +1,19 @@
 -- The entries that are built, by their fields, and which answer their tests pick. Assumes nothing.
-use mathlib.Core.Path.{◌≡◌, refl, sym, ap, ◌∙◌, subst⁻¹}
+use mathlib.Core.Path.{◌≡◌, refl, sym, ◌∙◌, subst⁻¹}
 use mathlib.Core.Bool.{Bool, true, false}
 use Prim.Native.Nat.{ℕ, ◌*◌, ◌/◌, ◌%◌, ◌^◌, ◌≤◌, ◌<◌}
 use native.Mathlib.Omega.{arith}
 use lib.Dec.{ltb, leb, lit<, lit≤}
-use lib.Bits.{bit_or, or_lt, or_shifted}
+use lib.Bits.{bit_or, or_shifted}
 use lib.Pow.{shl_exact}
 use borrow.Author.Tests.{lt-ltb, le-ltb, le-leb, lt-leb, ltb-false, leb-false}
 use Rattle.address.specs.Answer.{Said, answered, refused, pick}
 use Rattle.address.proofs.Answers.{value, clash}
-use Rattle.address.proofs.Bits.{or_with}
+use Rattle.std.proofs.lemmas.Nat.Bits.{bit_at_cat_low}
 use Rattle.page_table_entry.specs.Layout.{bit_v}
 use Rattle.page_table_entry.specs.Change.{with_bit, WithBit}
 use Rattle.page_table_entry.specs.Built.{name_of, entry_of, named, written, IsName, IsEntry, Named, Written}
-use Rattle.page_table_entry.proofs.Change.{below, with_bit_lem}
+use Rattle.page_table_entry.proofs.Change.{with_bit_lem}
 use Rattle.page_table_entry.proofs.Fields.{frame_above}
 
 -- what is picked has a value only where the refusal's test fails
@@ -45,12 +45,9 @@ module _ (pa : ℕ) where
   shifted l = shl_exact {a = pa / 4096} 44 10 64 (omega arith) (lit≤ tt)
 
 module _ (pa perm : ℕ) where
-  -- `((pa >> 12) << 10) | (perm | V)`
-  pub joined : perm ≤ 1023 → pa < 2 ^ 56 → bit_or (pa / 4096 * 1024 % 2 ^ 64) (bit_or perm 1) ≡ entry_of pa perm
-  joined h l =
-      ap (λ (x : ℕ). bit_or x (bit_or perm 1)) (shifted pa l)
-      ∙ or_shifted (pa / 4096) 10 (bit_or perm 1) (or_lt 10 perm 1 (omega arith) (lit< tt))
-      ∙ omega (arith, or_with 0 perm)
+  -- `((pa >> 12) << 10) | perm`, and V
+  pub joined : perm ≤ 1023 → pa < 2 ^ 56 → with_bit bit_v 1 (bit_or (pa / 4096 * 1024 % 2 ^ 64) perm) ≡ entry_of pa perm
+  joined h l = rw (shifted pa l, or_shifted (pa / 4096) 10 perm (omega arith)) (omega arith)
 
   pub eight : 1023 < perm → refused 8 ≡ written pa perm
   unfolding written
@@ -67,8 +64,8 @@ module _ (pa perm : ℕ) where
   is_entry : perm ≤ 1023 → pa < 2 ^ 56 → IsEntry pa perm (entry_of pa perm)
   is_entry h l =
       record {
-        valid = below 0 10 (pa / 4096) low (lit< tt) ∙ set.here;
-        flag = λ k lo hi. below k 10 (pa / 4096) low hi ∙ set.others k (λ q. omega arith);
+        valid = bit_at_cat_low (pa / 4096) 10 low 0 (lit< tt) ∙ set.here;
+        flag = λ k lo hi. bit_at_cat_low (pa / 4096) 10 low k hi ∙ set.others k (λ q. omega arith);
         frame = (frame_above (pa / 4096) low (omega arith) (omega arith)).0;
         above = (frame_above (pa / 4096) low (omega arith) (omega arith)).1;
       }

@@ -1,35 +1,27 @@
 -- One bit changed: the closed form has that bit, and every other bit as before. Assumes nothing.
 use mathlib.Core.Path.{◌≡◌, sym, ap, ◌∙◌}
-use mathlib.Core.Logic.{◌⊎◌, inl, inr, ⊎_elim}
-use Prim.Native.Nat.{ℕ, suc, ◌+◌, ◌-◌, ◌*◌, ◌/◌, ◌%◌, ◌^◌, ◌<◌, ◌≤◌}
-use native.Mathlib.Nat.{mod-lt, add-mul, eq-zero-or-pos}
-use native.Mathlib.Numerals.{one-add}
+use mathlib.Core.Logic.{by_cases}
+use Prim.Native.Nat.{ℕ, zero, suc, ◌+◌, ◌-◌, ◌*◌, ◌/◌, ◌%◌, ◌^◌, ◌<◌, ◌≤◌}
+use native.Mathlib.Nat.{mod-lt, add-mul, le_refl}
+use native.Mathlib.Decide.{dec_lt}
 use native.Mathlib.Omega.{arith}
-use lib.Pow.{pow_pos, split, high, shr-shr}
+use lib.Bits.{bit_and, bit_or, and_comm, and_zero_r, or_disjoint}
+use lib.Pow.{pow-lt, pow_pos, split, shl-shr, shl_exact}
+use Rattle.std.proofs.lemmas.Nat.{and_assoc, and-not}
+use Rattle.std.proofs.lemmas.Nat.Bits.{bit_at-suc, bit_at_cat_low, bit_at_cat_high, and_pow}
 use Rattle.address.specs.Field.{bit}
-use Rattle.address.proofs.Bits.{low_bit}
 use Rattle.page_table_entry.specs.Change.{with_bit, WithBit}
-
--- the bits of b * 2 ^ k + low, below bit k and from bit k on
-pub below : (j k b low : ℕ) → j < k → bit j (b * 2 ^ k + low) ≡ bit j low
-below j k b low h =
-    let e : k ≡ k - suc j + suc j = omega arith in
-    ap (λ (x : ℕ). bit j (b * 2 ^ x + low)) e ∙ low_bit (k - suc j) j b low
-
-from : (i k b : ℕ) {low : ℕ} → low < 2 ^ k → bit (k + i) (b * 2 ^ k + low) ≡ bit i b
-from i k b {low} h = ap (λ (x : ℕ). x % 2) (sym (shr-shr (b * 2 ^ k + low) k i) ∙ ap (λ (x : ℕ). x / 2 ^ i) (high b k h))
-
-halve : (k n : ℕ) → bit (suc k) n ≡ bit k (n / 2)
-halve k n = ap (λ (x : ℕ). n / 2 ^ x % 2) (sym (one-add k)) ∙ ap (λ (x : ℕ). x % 2) (sym (shr-shr n 1 k))
-
-either : (j k : ℕ) → (j < k) ⊎ (k ≤ j)
-either j k = ⊎_elim (λ e. inr (omega arith)) (λ h. inl (omega arith)) (eq-zero-or-pos (k - j))
 
 -- the closed form, with P for 2 ^ k: v stands in the place of the lowest bit of a
 closed : (P a low e v : ℕ) → a * P + low ≡ e → e - a % 2 * P + v * P ≡ (a / 2 * 2 + v) * P + low
 closed P a low e v h =
     let parts : a * P ≡ a / 2 * 2 * P + a % 2 * P = ap (λ (x : ℕ). x * P) (omega arith) ∙ add-mul (a / 2 * 2) (a % 2) P in
     omega (arith, add-mul (a / 2 * 2) v P)
+
+-- numbers with the same half have the same bits above the lowest
+same_half : (a b : ℕ) → a / 2 ≡ b / 2 → (i : ℕ) → 0 < i → bit i a ≡ bit i b
+same_half a b h zero l = absurd (omega arith)
+same_half a b h (suc i) l = bit_at-suc a i ∙ ap (bit i) h ∙ sym (bit_at-suc b i)
 
 module _ (k v e : ℕ) (h : v < 2) where
   top : ℕ
@@ -39,33 +31,49 @@ module _ (k v e : ℕ) (h : v < 2) where
   unfolding top
   form = closed (2 ^ k) (e / 2 ^ k) (e % 2 ^ k) e v (split e k)
 
-  at : (j : ℕ) → bit (k + j) (with_bit k v e) ≡ bit j top
-  at j = ap (bit (k + j)) form ∙ from j k top (mod-lt e (pow_pos k))
+  -- bit j of a number whose bits below bit k are those of e
+  upward : (a j : ℕ) → k ≤ j → bit j (a * 2 ^ k + e % 2 ^ k) ≡ bit (j - k) a
+  upward a j l = bit_at_cat_high a k (e % 2 ^ k) j (mod-lt e (pow_pos k)) l
 
   here : bit k (with_bit k v e) ≡ v
   unfolding top
-  here = ap (λ (x : ℕ). bit x (with_bit k v e)) (omega arith) ∙ at 0 ∙ omega arith
+  here = let z : k - k ≡ 0 = omega arith in ap (bit k) form ∙ upward top k (le_refl k) ∙ ap (λ (i : ℕ). bit i top) z ∙ omega arith
 
   lower : (j : ℕ) → j < k → bit j (with_bit k v e) ≡ bit j e
   lower j l =
-      ap (bit j) form ∙ below j k top (e % 2 ^ k) l ∙ sym (below j k (e / 2 ^ k) (e % 2 ^ k) l) ∙ ap (bit j) (split e k)
+      ap (bit j) form ∙ bit_at_cat_low top k (e % 2 ^ k) j l ∙ sym (bit_at_cat_low (e / 2 ^ k) k (e % 2 ^ k) j l) ∙ ap (bit j) (split e k)
 
-  higher : (j : ℕ) → bit (k + suc j) (with_bit k v e) ≡ bit (k + suc j) e
+  higher : (j : ℕ) → k < j → bit j (with_bit k v e) ≡ bit j e
   unfolding top
-  higher j =
-      at (suc j) ∙ halve j top ∙ ap (bit j) (omega arith) ∙ sym (halve j (e / 2 ^ k))
-      ∙ sym (from (suc j) k (e / 2 ^ k) (mod-lt e (pow_pos k))) ∙ ap (bit (k + suc j)) (split e k)
+  higher j l =
+      ap (bit j) form ∙ upward top j (omega arith) ∙ same_half top (e / 2 ^ k) (omega arith) (j - k) (omega arith)
+      ∙ sym (upward (e / 2 ^ k) j (omega arith)) ∙ ap (bit j) (split e k)
 
   pub with_bit_lem : (r : ℕ) → r ≡ with_bit k v e → WithBit k v e r
   with_bit_lem r w =
       record {
         whole = w;
         here = ap (bit k) w ∙ here;
-        others = λ j n. ap (bit j) w ∙ other j n;
+        others = λ j n. ap (bit j) w ∙ by_cases (dec_lt j k) (lower j) (λ l. higher j (omega arith));
       }
+
+  -- `(e & !(1 << k)) | (v << k)`
+  pub bit_written : k < 64 → e < 2 ^ 64 → bit_or (bit_and e (2 ^ 64 - 1 - 1 * 2 ^ k % 2 ^ 64)) (v * 2 ^ k % 2 ^ 64) ≡ with_bit k v e
+  bit_written l w =
+      rw (one, all) (or_disjoint (bit_and e rest) (v * 2 ^ k) (and_assoc (v * 2 ^ k) e rest ∙ ap (bit_and e) apart ∙ and_zero_r e)
+      ∙ omega (arith, and-not 64 (2 ^ k) e (pow-lt l) w, and_comm rest e, and_comm (2 ^ k) e, and_pow e k))
     where
-      other : (j : ℕ) → (j ≡ k → ⊥) → bit j (with_bit k v e) ≡ bit j e
-      other j n =
-          ⊎_elim (lower j)
-          (λ l. let q : k + suc (j - suc k) ≡ j = omega arith in ap (λ (x : ℕ). bit x (with_bit k v e)) (sym q) ∙ higher (j - suc k) ∙ ap (λ (x : ℕ). bit x e) q)
-          (either j k)
+      rest : ℕ
+      rest = 2 ^ 64 - 1 - 2 ^ k
+
+      one : 1 * 2 ^ k % 2 ^ 64 ≡ 2 ^ k
+      one = shl_exact {a = 1} 1 k 64 (omega arith) (omega arith) ∙ omega arith
+
+      all : v * 2 ^ k % 2 ^ 64 ≡ v * 2 ^ k
+      all = shl_exact {a = v} 1 k 64 h (omega arith)
+
+      same : bit k (v * 2 ^ k) ≡ v
+      same = ap (λ (x : ℕ). x % 2) (shl-shr v k) ∙ omega arith
+
+      apart : bit_and rest (v * 2 ^ k) ≡ 0
+      apart = omega (arith, and-not 64 (2 ^ k) (v * 2 ^ k) (pow-lt l) (omega (arith, all, mod-lt (v * 2 ^ k) (pow_pos 64))), and_comm (2 ^ k) (v * 2 ^ k), and_pow (v * 2 ^ k) k ∙ ap (λ (b : ℕ). b * 2 ^ k) same)

@@ -2,7 +2,7 @@
 // An entry is built only from permissions up to 1023, else 8, and from a frame below 2^56, else 9.
 #![tactic(auto)]
 
-ghost use Rattle.std.specs.Prelude.{◌≡◌};
+ghost use Rattle.std.specs.Prelude.{◌≡◌, ◌<◌};
 ghost use Rattle.page_table_entry.specs.Layout.{bit_v, bit_r, bit_w, bit_x, bit_u, has, leaf, flags, frame_of};
 ghost use Rattle.page_table_entry.specs.Change.{WithBit};
 ghost use Rattle.page_table_entry.specs.Built.{Written, Named, entry_said};
@@ -10,15 +10,15 @@ ghost use Rattle.page_table_entry.specs.Built.{Written, Named, entry_said};
 use address::PhysicalAddress;
 use refusal::Refusal;
 
-const PTE_V: u64 = 1 << 0;
+const BIT_V: u64 = 0;
 
-const PTE_R: u64 = 1 << 1;
+const BIT_R: u64 = 1;
 
-const PTE_W: u64 = 1 << 2;
+const BIT_W: u64 = 2;
 
-const PTE_X: u64 = 1 << 3;
+const BIT_X: u64 = 3;
 
-const PTE_U: u64 = 1 << 4;
+const BIT_U: u64 = 4;
 
 const FLAGS: u64 = 0x3FF;
 
@@ -42,58 +42,74 @@ impl PageTableEntry {
         self.0
     }
 
+    // Whether bit `bit` is 1.
+    fn has(self, bit: u64) -> bool
+        requires { bit < 64 }
+        ensures { result ≡ has bit self.0 }
+    {
+        (self.0 >> bit) & 1 == 1
+    }
+
+    // The same entry with v for bit `bit`.
+    fn with(self, bit: u64, v: u64) -> Self
+        requires { (bit < 64) × (v < 2) }
+        ensures { WithBit bit v self.0 result.0 }
+    {
+        Self((self.0 & !(1 << bit)) | (v << bit))
+    }
+
     pub fn is_valid(self) -> bool
         ensures { result ≡ has bit_v self.0 }
     {
-        (self.0 & PTE_V) > 0
+        self.has(BIT_V)
     }
 
     pub fn is_user(self) -> bool
         ensures { result ≡ has bit_u self.0 }
     {
-        (self.0 & PTE_U) > 0
+        self.has(BIT_U)
     }
 
     pub fn is_read(self) -> bool
         ensures { result ≡ has bit_r self.0 }
     {
-        (self.0 & PTE_R) > 0
+        self.has(BIT_R)
     }
 
     pub fn is_write(self) -> bool
         ensures { result ≡ has bit_w self.0 }
     {
-        (self.0 & PTE_W) > 0
+        self.has(BIT_W)
     }
 
     pub fn is_execute(self) -> bool
         ensures { result ≡ has bit_x self.0 }
     {
-        (self.0 & PTE_X) > 0
+        self.has(BIT_X)
     }
 
     pub fn is_leaf(self) -> bool
         ensures { result ≡ leaf self.0 }
     {
-        (self.0 & (PTE_R | PTE_W | PTE_X)) > 0
+        self.is_read() || self.is_write() || self.is_execute()
     }
 
     pub fn add_valid_bit(self) -> Self
         ensures { WithBit bit_v 1 self.0 result.0 }
     {
-        Self(self.0 | PTE_V)
+        self.with(BIT_V, 1)
     }
 
     pub fn add_user_bit(self) -> Self
         ensures { WithBit bit_u 1 self.0 result.0 }
     {
-        Self(self.0 | PTE_U)
+        self.with(BIT_U, 1)
     }
 
     pub fn rm_user_bit(self) -> Self
         ensures { WithBit bit_u 0 self.0 result.0 }
     {
-        Self(self.0 & !PTE_U)
+        self.with(BIT_U, 0)
     }
 
     // The address of the frame that the entry names; bits 54 to 63 are no part of it.
@@ -135,6 +151,6 @@ impl PageTableEntry {
         if pa.0 >= PAST_FRAMES {
             return Err(Refusal::FrameTooHigh);
         }
-        Ok(Self(((pa.0 >> 12) << 10) | (perm | PTE_V)))
+        Ok(Self(((pa.0 >> 12) << 10) | perm).add_valid_bit())
     }
 }

@@ -15,4 +15,4 @@ returns-then-pa-ge-PAST_FRAMES c = is_written _ _ _ (then_nine _ _ (omega arith)
 
 pub returns : goal.returns
 unfolding said
-returns c = is_written _ _ _ (ap answered (joined _ _ (omega arith) (omega arith)) ∙ entry _ _ (omega arith) (omega arith))
+returns c = is_written _ _ _ (ap answered (c.add_valid_bit.ensures.whole ∙ joined _ _ (omega arith) (omega arith)) ∙ entry _ _ (omega arith) (omega arith))

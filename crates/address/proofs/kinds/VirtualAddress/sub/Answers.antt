@@ -1,7 +1,6 @@
 -- `address::kinds::VirtualAddress::sub` meets its contract: what is refused below is refused here. Assumes nothing.
-use mathlib.Core.Path.{ap, ◌∙◌}
 use Rattle.std.proofs.lemmas.Result.{err_from_is_err_and}
-use Rattle.address.specs.Answer.{said, answered}
+use Rattle.address.specs.Answer.{said}
 use Rattle.address.proofs.kinds.VirtualAddress.sub.Goals as goal
 
 pub returns-in_err-difference : goal.returns-in_err-difference
