@@ -3,31 +3,26 @@ ghost use Rattle.std.specs.Prelude.{◌+◌, ◌-◌, ◌^◌, ◌≤◌, ◌<�
 ghost use Rattle.store.specs.Count.{lowest};
 ghost use Rattle.store.specs.Outcome.{Judges};
 ghost use Rattle.store.specs.Store.{seen};
-ghost use Rattle.well_formed.specs.Root.{Asked};
 ghost use Rattle.fresh.specs.Fresh.{FreshReason, FreshReady, FrameFits, FrameEntered, FrameTaken};
 
 use refusal::Refusal;
 use store::Store;
-use walk::Bits;
+use walk::{Bits, RootPages};
 
-// 14, 16 or 17, or 0, for the pages from first up to end.
-pub fn judge_fresh(store: &Store, root: usize, first: usize, end: usize) -> Result<(), Refusal>
-    requires { Asked (seen store.now) root first (end - first) × (first ≤ end) }
+// Refuses fresh frames for these pages where one is mapped, or frames or tables are too few.
+pub fn judge_fresh(store: &Store, pages: RootPages) -> Result<(), Refusal>
     ensures { Judges
-        (FreshReason (seen store.now) root first (end - first))
-        (FreshReady (seen store.now) root first (end - first))
+        (FreshReason (seen store.now) pages.root pages.first (pages.end - pages.first))
+        (FreshReady (seen store.now) pages.root pages.first (pages.end - pages.first))
         result }
 {
-    if walk::count_pages(store.words, root, first, end, Bits::VALID) != 0 {
+    if walk::count_pages(store.words, pages, Bits::VALID) != 0 {
         return Err(Refusal::MappedAlready);
     }
-    if !store::enough_free(store.fmarks, end - first) {
+    if !store::enough_free(store.fmarks, pages.end - pages.first) {
         return Err(Refusal::TooFewFrames);
     }
-    if !store::enough_free(
-        store.tmarks,
-        walk::missing_tables(store.words, root, first, end),
-    ) {
+    if !store::enough_free(store.tmarks, walk::missing_tables(store.words, pages)) {
         return Err(Refusal::TooFewTables);
     }
     Ok(())

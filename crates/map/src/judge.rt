@@ -7,7 +7,7 @@ ghost use Rattle.map.specs.Reasons.{MapReason, MapReady};
 use address::{MAXVA, PhysicalAddress, VirtualAddress};
 use refusal::Refusal;
 use store::Store;
-use walk::Bits;
+use walk::{Bits, RootPages};
 
 const PAGES: u64 = 1 << 26;
 
@@ -72,7 +72,6 @@ pub fn judge_map(
         result }
 {
     well_formed::judge_root(store, root)?;
-    let r = root as usize;
     judge_numbers(va, pa, size, perm)?;
     let range = rounding::page_range(va, size);
     let first = range.first as usize;
@@ -80,13 +79,15 @@ pub fn judge_map(
     if end <= first {
         return Ok(());
     }
-    if walk::count_pages(store.words, r, first, end, Bits::VALID) != 0 {
+    let pages = RootPages {
+        root: root as usize,
+        first,
+        end,
+    };
+    if walk::count_pages(store.words, pages, Bits::VALID) != 0 {
         return Err(Refusal::MappedAlready);
     }
-    if !store::enough_free(
-        store.tmarks,
-        walk::missing_tables(store.words, r, first, end),
-    ) {
+    if !store::enough_free(store.tmarks, walk::missing_tables(store.words, pages)) {
         return Err(Refusal::TooFewTables);
     }
     Ok(())

@@ -7,6 +7,7 @@ use address::{PhysicalAddress, VirtualAddress};
 use page_table_entry::PageTableEntry;
 use refusal::Refusal;
 use store::Store;
+use walk::RootPages;
 
 // Maps the pages that size bytes from va on lie in, to the frames from pa on. Answers how many tables it took.
 pub fn map(
@@ -38,8 +39,21 @@ pub fn map(
         return Ok(0);
     }
     let e = PageTableEntry::write_perm(pa, perm)?;
-    let r = root as usize;
-    let taken = walk::missing_tables(words, r, first, end);
-    enter::enter_pages(words, tmarks, bytes, fmarks, r, first, end - first, e.0);
+    let pages = RootPages {
+        root: root as usize,
+        first,
+        end,
+    };
+    let taken = walk::missing_tables(words, pages);
+    enter::enter_pages(
+        words,
+        tmarks,
+        bytes,
+        fmarks,
+        pages.root,
+        first,
+        end - first,
+        e.0,
+    );
     Ok(taken as u64)
 }

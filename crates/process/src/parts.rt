@@ -9,7 +9,7 @@ ghost use Rattle.process.specs.PartsReady.{JudgesParts, RestReady, SharedReady, 
 use address::{MAXVA, VirtualAddress};
 use refusal::Refusal;
 use store::Store;
-use walk::Bits;
+use walk::{Bits, RootPages};
 
 const PAGES: usize = 1 << 26;
 
@@ -31,8 +31,18 @@ fn judge_rest(store: &Store, root: usize, size: u64, top: usize) -> Result<(), R
     if n > top {
         return Err(Refusal::NotMapped);
     }
-    unmap::judge_leave(store, root, 0, n, true)?;
-    if walk::count_pages(store.words, root, n, top, Bits::VALID) != 0 {
+    let leaving = RootPages {
+        root,
+        first: 0,
+        end: n,
+    };
+    unmap::judge_leave(store, leaving, true)?;
+    let rest = RootPages {
+        root,
+        first: n,
+        end: top,
+    };
+    if walk::count_pages(store.words, rest, Bits::VALID) != 0 {
         return Err(Refusal::PageLeft);
     }
     Ok(())
@@ -144,7 +154,12 @@ fn judge_proc(store: &Store, root: u64, size: u64) -> Result<(), Refusal>
 {
     unmap::judge_unmap(store, root, TRAMPOLINE, 1, false)?;
     let root = root as usize;
-    unmap::judge_leave(store, root, TRAPFRAME_PAGE, TRAPFRAME_PAGE + 1, false)?;
+    let trapframe = RootPages {
+        root,
+        first: TRAPFRAME_PAGE,
+        end: TRAPFRAME_PAGE + 1,
+    };
+    unmap::judge_leave(store, trapframe, false)?;
     judge_rest(store, root, size, TRAPFRAME_PAGE)
 }
 

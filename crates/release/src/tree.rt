@@ -7,7 +7,7 @@ ghost use Rattle.release.specs.FreeTree.{trees, zeroed, free_tree};
 
 use refusal::Refusal;
 use store::Store;
-use walk::Bits;
+use walk::{Bits, RootPages};
 
 const PAGES: usize = 1 << 26;
 
@@ -19,7 +19,12 @@ fn judge_free(store: &Store, root: u64) -> Result<(), Refusal>
         result }
 {
     well_formed::judge_root(store, root)?;
-    if walk::count_pages(store.words, root as usize, 0, PAGES, Bits::VALID) != 0 {
+    let pages = RootPages {
+        root: root as usize,
+        first: 0,
+        end: PAGES,
+    };
+    if walk::count_pages(store.words, pages, Bits::VALID) != 0 {
         return Err(Refusal::PageLeft);
     }
     Ok(())

@@ -22,13 +22,10 @@ returns-then-end-first c =
     let p = c.page_range-range.ensures in
     nothing (seen a.store.now) a.root a.va.0 a.pa.0 a.size a.perm f o _ _ p.from p.upto c.if-end-first.true
 
-pub count_pages-requires : goal.count_pages-requires
-count_pages-requires c =
-    let a = c.args in
+pub invariant_of-pages : goal.invariant_of-pages
+invariant_of-pages c =
     let f = c.in_ok-judge_root.ensures in
-    let o = c.in_ok-judge_numbers.ensures in
-    let p = c.page_range-range.ensures in
-    (root_in (seen a.store.now) a.root f.sized f.is_root, search rules, omega (arith, o.pages (omega arith), c.if-end-first.false), omega arith)
+    record { of_a_table = root_in _ _ f.sized f.is_root; in_order = search rules; within = omega (arith, c.in_ok-judge_numbers.ensures.pages (omega arith), c.if-end-first.false) }
 
 pub returns-then-count_pages-ne0 : goal.returns-then-count_pages-ne0
 returns-then-count_pages-ne0 c =
@@ -37,14 +34,6 @@ returns-then-count_pages-ne0 c =
     let o = c.in_ok-judge_numbers.ensures in
     let p = c.page_range-range.ensures in
     no_14 (seen a.store.now) a.root a.va.0 a.pa.0 a.size a.perm f o _ _ p.from p.upto c.if-end-first.false _ c.count_pages.ensures c.if-count_pages-ne0.true
-
-pub missing_tables-requires : goal.missing_tables-requires
-missing_tables-requires c =
-    let a = c.args in
-    let f = c.in_ok-judge_root.ensures in
-    let o = c.in_ok-judge_numbers.ensures in
-    let p = c.page_range-range.ensures in
-    (root_in (seen a.store.now) a.root f.sized f.is_root, search rules, omega (arith, o.pages (omega arith), c.if-end-first.false))
 
 pub returns-then-not-enough_free : goal.returns-then-not-enough_free
 returns-then-not-enough_free c =

@@ -16,12 +16,11 @@ returns-then-end-first c =
     let p = c.page_range-range.ensures in
     done_none (store_of a.words.now a.tmarks.now a.bytes.now a.fmarks.now) a.root a.va.0 a.pa.0 a.size a.perm f _ _ p.from p.upto c.if-end-first.true
 
-pub missing_tables-taken-requires : goal.missing_tables-taken-requires
-missing_tables-taken-requires c =
-    let a = c.args in
-    let f = c.in_ok-judge_map.ensures in
+pub invariant_of-pages : goal.invariant_of-pages
+invariant_of-pages c =
     let p = c.page_range-range.ensures in
-    pages_asked (store_of a.words.now a.tmarks.now a.bytes.now a.fmarks.now) a.root a.va.0 a.pa.0 a.size a.perm f _ _ p.from p.upto c.if-end-first.false
+    let asked = pages_asked _ _ _ _ _ _ c.in_ok-judge_map.ensures _ _ p.from p.upto c.if-end-first.false in
+    record { of_a_table = asked.0; in_order = asked.1; within = asked.2 }
 
 pub enter_pages-requires : goal.enter_pages-requires
 unfolding said

@@ -7,10 +7,8 @@ use Rattle.release.proofs.tree.judge_free.Goals as goal
 pub returns-in_err-judge_root : goal.returns-in_err-judge_root
 returns-in_err-judge_root c = let p = err_from_is_err_and c.from_residual.result c.from_residual.ensures.1 in rw (p.1, p.2) (let a = c.args in by_root (seen a.store.now) a.root _ c.in_err-judge_root.ensures)
 
-pub count_pages-requires : goal.count_pages-requires
-count_pages-requires c =
-    let a = c.args in
-    can_count (seen a.store.now) a.root (c.in_ok-judge_root.ensures)
+pub invariant_of-pages : goal.invariant_of-pages
+invariant_of-pages c = let p = can_count _ _ c.in_ok-judge_root.ensures in record { of_a_table = p.0; in_order = p.1; within = p.2 }
 
 pub returns-then-count_pages-ne0 : goal.returns-then-count_pages-ne0
 returns-then-count_pages-ne0 c =
