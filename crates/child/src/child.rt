@@ -10,7 +10,7 @@ use address::MAXVA;
 use refusal::Refusal;
 use store::Store;
 use unmap::IN_WINDOW;
-use walk::Bits;
+use walk::{Bits, RootPages};
 
 fn judge_child(store: &Store, parent: u64, child: u64, size: u64) -> Result<(), Refusal>
     ensures { Judges
@@ -32,16 +32,26 @@ fn judge_child(store: &Store, parent: u64, child: u64, size: u64) -> Result<(), 
         return Err(Refusal::NotAligned);
     }
     let n = (size / 4096) as usize;
-    if walk::count_pages(store.words, parent as usize, 0, n, Bits::VALID) < n {
+    let from = RootPages {
+        root: parent as usize,
+        first: 0,
+        end: n,
+    };
+    let to = RootPages {
+        root: child as usize,
+        first: 0,
+        end: n,
+    };
+    if walk::count_pages(store.words, from, Bits::VALID) < n {
         return Err(Refusal::NotMapped);
     }
-    if walk::count_pages(store.words, child as usize, 0, n, Bits::VALID) != 0 {
+    if walk::count_pages(store.words, to, Bits::VALID) != 0 {
         return Err(Refusal::MappedAlready);
     }
-    if walk::count_pages(store.words, parent as usize, 0, n, IN_WINDOW) < n {
+    if walk::count_pages(store.words, from, IN_WINDOW) < n {
         return Err(Refusal::NoPoolFrame);
     }
-    fresh::judge_fresh(store, child as usize, 0, n)
+    fresh::judge_fresh(store, to)
 }
 
 // The bytes of frame g go to frame f.

@@ -4,7 +4,7 @@ ghost use Rattle.std.specs.Prelude.{◌≤◌};
 use super::say::put_result;
 use address::{PhysicalAddress, VirtualAddress};
 use std::io;
-use walk::Bits;
+use walk::{Bits, RootPages};
 
 // The memory of a store.
 #[derive(Drop)]
@@ -44,7 +44,12 @@ pub fn growing(rt: &impl Print, name: &str, old: u64, new: u64) -> io::Result<()
     );
     print!(rt; "{name}")?;
     put_result(rt, grown)?;
-    let pages = walk::count_pages(&m.words, 0, 0, 67108864, Bits::VALID);
+    let all = RootPages {
+        root: 0,
+        first: 0,
+        end: 67108864,
+    };
+    let pages = walk::count_pages(&m.words, all, Bits::VALID);
     println!(rt; " pages {pages}")
 }
 

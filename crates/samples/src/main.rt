@@ -11,6 +11,7 @@ use calls::{growing, loading, mapping};
 use page_table_entry::PageTableEntry;
 use say::put_result;
 use std::io;
+use walk::RootPages;
 
 // The indices of va, from level 2 down.
 fn indices(rt: &impl Print, name: &str, va: u64) -> io::Result<()> {
@@ -49,7 +50,12 @@ fn missing(rt: &impl Print, name: &str, first: usize, end: usize) -> io::Result<
     requires { (first ≤ end) × (end ≤ 2 ^ 26) }
 {
     let words = [0u64; 4096];
-    let tables = walk::missing_tables(&words, 0, first, end);
+    let pages = RootPages {
+        root: 0,
+        first,
+        end,
+    };
+    let tables = walk::missing_tables(&words, pages);
     println!(rt; "{name} {tables}")
 }
 

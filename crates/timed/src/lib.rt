@@ -1,6 +1,8 @@
 // No part of the library: what bench/ times and no call exports by itself, the judge's two questions about a range of pages.
 #![tactic(auto)]
 
+use walk::{Bits, RootPages};
+
 // The tables that the pages from first up to end of a root lack, or 0 where one of them is mapped or there is no such range.
 #[unsafe(no_mangle)]
 pub extern "C" fn ronakvesh_timed_range(
@@ -18,8 +20,9 @@ pub extern "C" fn ronakvesh_timed_range(
     if 0x400_0000 < end {
         return 0;
     }
-    if walk::count_pages(words, root, first, end, walk::Bits::VALID) != 0 {
+    let pages = RootPages { root, first, end };
+    if walk::count_pages(words, pages, Bits::VALID) != 0 {
         return 0;
     }
-    walk::missing_tables(words, root, first, end) as u64
+    walk::missing_tables(words, pages) as u64
 }

@@ -31,11 +31,15 @@ returns-then-size-ne0 c =
     let a = c.args in
     no_7 (seen a.store.now) a.parent a.child a.size c.in_ok-judge_root.ensures (sym c.mark_at.ensures.0 ∙ c.if-mark_at-ne1.false) c.if-child-parent.false c.if-size-gt-MAXVA.false c.if-size-ne0.true
 
-pub count_pages-requires : goal.count_pages-requires
-count_pages-requires c =
-    let a = c.args in
-    let m = may_count (seen a.store.now) a.parent a.child a.size c.in_ok-judge_root.ensures (sym c.mark_at.ensures.0 ∙ c.if-mark_at-ne1.false) c.if-child-parent.false c.if-size-gt-MAXVA.false in
-    (m.1, omega arith, m.2, omega arith)
+pub invariant_of-from : goal.invariant_of-from
+invariant_of-from c =
+    let m = may_count _ _ _ _ c.in_ok-judge_root.ensures (sym c.mark_at.ensures.0 ∙ c.if-mark_at-ne1.false) c.if-child-parent.false c.if-size-gt-MAXVA.false in
+    record { of_a_table = m.1; in_order = omega arith; within = m.2 }
+
+pub invariant_of-to : goal.invariant_of-to
+invariant_of-to c =
+    let m = may_count _ _ _ _ c.in_ok-judge_root.ensures (sym c.mark_at.ensures.0 ∙ c.if-mark_at-ne1.false) c.if-child-parent.false c.if-size-gt-MAXVA.false in
+    record { of_a_table = m.0; in_order = omega arith; within = m.2 }
 
 pub returns-then-count_pages-n : goal.returns-then-count_pages-n
 returns-then-count_pages-n c =
@@ -46,12 +50,6 @@ returns-then-count_pages-n c =
     at_page s a.parent a.child a.size r m c.if-child-parent.false c.if-size-gt-MAXVA.false c.if-size-ne0.false 11
     (no_11 s a.parent a.child (a.size / 4096) r (may_count s a.parent a.child a.size r m c.if-child-parent.false c.if-size-gt-MAXVA.false).2 c.count_pages.result c.count_pages.ensures c.if-count_pages-n.true)
 
-pub count_pages-requires-2 : goal.count_pages-requires-2
-count_pages-requires-2 c =
-    let a = c.args in
-    let m = may_count (seen a.store.now) a.parent a.child a.size c.in_ok-judge_root.ensures (sym c.mark_at.ensures.0 ∙ c.if-mark_at-ne1.false) c.if-child-parent.false c.if-size-gt-MAXVA.false in
-    (m.0, omega arith, m.2, omega arith)
-
 pub returns-then-count_pages-ne0 : goal.returns-then-count_pages-ne0
 returns-then-count_pages-ne0 c =
     let a = c.args in
@@ -61,12 +59,6 @@ returns-then-count_pages-ne0 c =
     at_page s a.parent a.child a.size r m c.if-child-parent.false c.if-size-gt-MAXVA.false c.if-size-ne0.false 14
     (no_14 s a.parent a.child (a.size / 4096) r (may_count s a.parent a.child a.size r m c.if-child-parent.false c.if-size-gt-MAXVA.false).2 c.count_pages.result c.count_pages.ensures c.if-count_pages-n.false c.count_pages-2.result c.count_pages-2.ensures c.if-count_pages-ne0.true)
 
-pub count_pages-requires-3 : goal.count_pages-requires-3
-count_pages-requires-3 c =
-    let a = c.args in
-    let m = may_count (seen a.store.now) a.parent a.child a.size c.in_ok-judge_root.ensures (sym c.mark_at.ensures.0 ∙ c.if-mark_at-ne1.false) c.if-child-parent.false c.if-size-gt-MAXVA.false in
-    (m.1, omega arith, m.2, omega arith)
-
 pub returns-then-count_pages-n-2 : goal.returns-then-count_pages-n-2
 returns-then-count_pages-n-2 c =
     let a = c.args in
@@ -75,11 +67,6 @@ returns-then-count_pages-n-2 c =
     let m = sym c.mark_at.ensures.0 ∙ c.if-mark_at-ne1.false in
     at_page s a.parent a.child a.size r m c.if-child-parent.false c.if-size-gt-MAXVA.false c.if-size-ne0.false 15
     (no_15 s a.parent a.child (a.size / 4096) r (may_count s a.parent a.child a.size r m c.if-child-parent.false c.if-size-gt-MAXVA.false).2 c.count_pages.result c.count_pages.ensures c.if-count_pages-n.false c.count_pages-2.result c.count_pages-2.ensures c.if-count_pages-ne0.false c.count_pages-3.result c.count_pages-3.ensures c.if-count_pages-n-2.true)
-
-pub judge_fresh-requires : goal.judge_fresh-requires
-judge_fresh-requires c =
-    let a = c.args in
-    asked (seen a.store.now) a.parent a.child a.size c.in_ok-judge_root.ensures (sym c.mark_at.ensures.0 ∙ c.if-mark_at-ne1.false) c.if-child-parent.false c.if-size-gt-MAXVA.false
 
 pub returns : goal.returns
 returns c =
