@@ -1,6 +1,6 @@
 -- What the code of a slot and of a run does to words and frame marks, as the definitions say it of a store. Assumes nothing.
 use mathlib.Core.Path.{◌≡◌, sym, ap, ap₂, ◌∙◌}
-use mathlib.Core.Bool.{Bool, true, false, cond}
+use mathlib.Core.Bool.{Bool, cond}
 use mathlib.Core.List.{List, ◌++◌}
 use Prim.Native.Nat.{ℕ, suc, ◌+◌, ◌-◌, ◌≤◌, ◌<◌}
 use native.Mathlib.Omega.{arith}
@@ -12,7 +12,6 @@ use borrow.Author.Tests.{le-leb, lt-leb}
 use Rattle.store.specs.Store.{Store, store_of, frame_no}
 use Rattle.store.specs.Walk.{slot_word}
 use Rattle.store.proofs.Tree.{slot_word_lem}
-use Rattle.enter.specs.Enter.{put_slot}
 use Rattle.enter.proofs.Slots.{put_in}
 use Rattle.unmap.specs.Leave.{given_back, leave_slot, leave_run, FramesBecome}
 

@@ -15,7 +15,7 @@ loop-word-preserved c =
     let l = c.loop-word in
     let marks : c.if-freeing.fmarks ≡ cond c.args.freeing (given_back l.fmarks (get_or l.word-items l.word-index 0)) l.fmarks =
     elim c.if-freeing.branch [
-      then-freeing w ↦ rw w.if-freeing.true (w.fmarks-is ∙ w.give_back.ensures)
+      | then-freeing w ↦ rw w.if-freeing.true (w.fmarks-is ∙ w.give_back.ensures)
       | else-freeing w ↦ rw w.if-freeing.false w.fmarks-is
     ] in
     run_next _ _ _ _ _ c.requires _ _ _ l.invariant c.loop-word-test.true l.auto.word-items _ marks
