@@ -1,15 +1,13 @@
 -- What `uvm_alloc` took, `uvm_dealloc` of the same sizes gives back. Assumes nothing.
 use mathlib.Core.Path.{◌≡◌, refl, sym, ap, ap₂, ◌∙◌, subst}
 use mathlib.Core.Logic.{inl, inr, by_cases}
-use mathlib.Core.Bool.{true, true≢false, cond}
+use mathlib.Core.Bool.{true, true≢false}
 use mathlib.Core.List.{List}
 use Prim.Native.Nat.{ℕ, zero, suc, ◌+◌, ◌-◌, ◌*◌, ◌^◌, ◌≤◌, ◌<◌}
 use native.Mathlib.Nat.{add-zero, add-suc, suc-add}
 use native.Mathlib.Decide.{ℕ_discrete, dec_lt}
 use native.Mathlib.Omega.{arith}
-use lib.Dec.{leb}
 use lib.ListN.{get_or}
-use borrow.Author.Tests.{le-leb, lt-leb}
 use Rattle.std.specs.Prelude.{Result, Ok, Err}
 use Rattle.refusal.specs.declared.Refusal.{Refusal}
 use Rattle.store.specs.Store.{Store, mark, frame_no, pool_no}
@@ -38,11 +36,6 @@ all_pool (suc n) s r p h =
     let one = pool_one s (resolve s r p) (subst (λ (x : ℕ). PoolFrame s (resolve s r x)) (add-zero p) (h 0 (omega arith))) in
     let rest = all_pool n s r (suc p) (λ i l. subst (λ (x : ℕ). PoolFrame s (resolve s r x)) (add-suc p i ∙ sym (suc-add p i)) (h (suc i) (omega arith))) in
     omega (arith, one, rest)
-
--- old bytes are the answer
-answer : (old new : ℕ) → old ≤ new → cond (leb new old) new old ≡ old
-answer old new h =
-    by_cases (dec_lt old new) (λ l. rw (lt-leb new old l)) (λ l. rw (le-leb new old (omega arith)) (omega arith))
 
 module _ (s : Store) (root old new : ℕ) (a : Asked s root (pages_to old) (gained old new)) (v : ℕ) (s₁ : Store) (u : Grow s root old new (Ok v) s₁) where
   abbrev p : ℕ
@@ -117,6 +110,6 @@ module _ (s : Store) (root old new : ℕ) (a : Asked s root (pages_to old) (gain
   pub grown_back : old ≤ new → (r : Result ℕ Refusal) (s₂ : Store) → Shrink s₁ root new old r s₂ → (r ≡ Ok old) × Back s root (pages_to old) (gained old new) s₂
   grown_back h (Err k) s₂ x = absurd (back_taken _ x.0.applies)
   grown_back h (Ok w) s₂ x = (
-    ap Ok (x.1.0 ∙ answer old new h),
+    ap Ok (omega (arith, x.1.0, h)),
     back s₂ (shrink_gone s₁ root new old w s₂ (record { at_root = at_root₁; pages = a.pages }) x),
   )

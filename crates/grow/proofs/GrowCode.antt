@@ -1,7 +1,7 @@
 -- The loop that gives pages frames of zeros: what the code of each page asks, and what holds after it. Assumes nothing.
 use mathlib.Core.Path.{◌≡◌, refl, sym, ap, ◌∙◌, subst₂}
 use mathlib.Core.List.{List}
-use Prim.Native.Nat.{ℕ, suc, ◌+◌, ◌-◌, ◌*◌, ◌^◌, ◌≤◌, ◌<◌}
+use Prim.Native.Nat.{ℕ, suc, ◌+◌, ◌-◌, ◌*◌, ◌≤◌, ◌<◌}
 use native.Mathlib.Numerals.{add-one}
 use native.Mathlib.Omega.{arith}
 use lib.ListN.{length, replicate, length-replicate}
@@ -15,9 +15,6 @@ use Rattle.fresh.proofs.GrowLoop.{Growing, there, next}
 
 -- i of n pages have their frames, and the store so far has the words ws, the marks ms and fs and the bytes bs
 module _ (s₀ : Store) (r p n : ℕ) (ws ms bs fs : List ℕ) (i a : ℕ) (g : Growing s₀ r p n (λ _. 31) (λ _. zeroed) (store_of ws ms bs fs) i a) (h : i < n) where
-  pub page : p + i < 2 ^ 26
-  page = omega (arith, g.ready.range 0 (omega arith))
-
   pub frame_in : (f : ℕ) → f ≡ lowest fs → (4096 * f + 4096 ≤ length bs) × (f < 4096)
   frame_in f e =
       let t = there s₀ r p n (λ _. 31) (λ _. zeroed) (store_of ws ms bs fs) i a g h in

@@ -1,14 +1,13 @@
 -- The reasons of `uvm_alloc` in order, and what each way out of its judge says. Assumes nothing.
-use mathlib.Core.Path.{◌≡◌, refl, subst₂}
+use mathlib.Core.Path.{◌≡◌, subst₂}
 use mathlib.Core.Logic.{◌⊎◌, inl, inr}
-use Prim.Native.Nat.{ℕ, ◌-◌, ◌≤◌, ◌<◌}
+use Prim.Native.Nat.{ℕ, ◌-◌, ◌≤◌}
 use native.Mathlib.Omega.{arith}
 use Rattle.std.specs.Prelude.{Result}
 use Rattle.refusal.specs.declared.Refusal.{Refusal}
 use Rattle.store.specs.Store.{Store}
 use Rattle.store.specs.Outcome.{NoReason, Smallest, Judges}
 use Rattle.store.proofs.Outcomes.{first_found, then_judged}
-use Rattle.well_formed.specs.Root.{Asked}
 use Rattle.shrink.specs.Sizes.{pages_to, SizeReason, SizeReady}
 use Rattle.fresh.specs.Fresh.{FreshReason, FreshReady}
 use Rattle.grow.specs.Grow.{gained, GrowReason, sizes, pages, GrowReady}
@@ -31,9 +30,6 @@ module _ (s : Store) (root old new : ℕ) where
 
   -- the judge of pages is asked about those from first up to end
   module _ (z : SizeReady s root old new) (first end : ℕ) (ef : first ≡ pages_to old) (ee : end ≡ pages_to new) where
-    pub asked : first < end → Asked s root first (end - first) × (first ≤ end)
-    asked h = let r = z.at_root in (record { at_root = r; pages = omega (arith, ee, z.new_small) }, omega arith)
-
     pub by_pages : (n : Result Unit Refusal) → Judges (FreshReason s root first (end - first)) (FreshReady s root first (end - first)) n → Judges R F n
     by_pages n q =
         then_judged split (λ k. pages) (size_clear s root old new z) (λ f. record { sizes = z; pages = f }) n

@@ -1,6 +1,5 @@
 -- The laws of growing, and of growing and then shrinking back.
 pub mod GrowCode
-pub mod PaddedFrame
 pub mod InitReasons
 pub mod InitLaws
 pub mod GrowReasons

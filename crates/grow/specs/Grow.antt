@@ -1,5 +1,5 @@
 -- `uvm_alloc`: why it is refused, what it answers, and the store afterwards.
-use Rattle.std.specs.Prelude.{◌≡◌, cond, List, ℕ, ◌-◌, ltb, replicate, Result}
+use Rattle.std.specs.Prelude.{◌≡◌, List, ℕ, ◌-◌, max, replicate, Result}
 use Rattle.refusal.specs.declared.Refusal.{Refusal}
 use Rattle.store.specs.Store.{Store}
 use Rattle.store.specs.Outcome.{Outcome}
@@ -24,10 +24,10 @@ pub record GrowReady (s : Store) (root old new : ℕ) : Type 0 where
 abbrev pub zeroed : List ℕ
 zeroed = replicate 4096 0
 
--- new < old answers old; else these pages get frames of zeros with the flags 31 (V, R, W, X and U), and the answer is new
+-- these pages get frames of zeros with the flags 31 (V, R, W, X and U); the answer is old where new < old, else new: the greater
 abbrev pub GrowDone : Store → ℕ → ℕ → ℕ → ℕ → Store → Type 0
 GrowDone s root old new v s' =
-    (v ≡ cond (ltb new old) old new) × (s' ≡ fresh_pages s root (pages_to old) (gained old new) (λ _. 31) (λ _. zeroed))
+    (v ≡ max old new) × (s' ≡ fresh_pages s root (pages_to old) (gained old new) (λ _. 31) (λ _. zeroed))
 
 abbrev pub Grow : Store → ℕ → ℕ → ℕ → Result ℕ Refusal → Store → Type 0
 Grow s root old new r s' = Outcome (GrowReason s root old new) (GrowDone s root old new) s r s'

@@ -7,7 +7,9 @@ ghost use Rattle.grow.specs.Grow.{zeroed, GrowReason, GrowReady, Grow};
 
 use refusal::Refusal;
 use store::Store;
+use walk::RootPages;
 
+// Refuses what `judge_sizes` of shrink refuses, and the new pages where `judge_fresh` does.
 fn judge_grow(store: &Store, root: u64, old: u64, new: u64) -> Result<(), Refusal>
     ensures { Judges
         (GrowReason (seen store.now) root old new)
@@ -20,7 +22,12 @@ fn judge_grow(store: &Store, root: u64, old: u64, new: u64) -> Result<(), Refusa
     if end <= first {
         return Ok(());
     }
-    fresh::judge_fresh(store, root as usize, first, end)
+    let pages = RootPages {
+        root: root as usize,
+        first,
+        end,
+    };
+    fresh::judge_fresh(store, pages)
 }
 
 // n pages from first on get frames of zeros with the flags 31. The search for a free frame goes on behind the last one taken.
@@ -38,12 +45,11 @@ fn grow_pages(
         ≡ fresh_pages (store_of words.old tmarks.old bytes.old fmarks.old) root first n (λ _. 31) (λ _. zeroed) }
 {
     let mut from = 0;
-    let mut i = 0;
-    while i < n {
+    for i in 0..n {
         let f = fresh::enter_frame(words, tmarks, fmarks, root, first + i, 31, from);
-        bytes[4096 * f..4096 * f + 4096].fill(0);
+        let to = 4096 * f;
+        bytes[to..to + 4096].fill(0);
         from = f + 1;
-        i += 1;
     }
 }
 
@@ -69,18 +75,7 @@ pub fn uvm_alloc(
     };
     judge_grow(&store, root, old, new)?;
     let first = shrink::pages_to(old);
-    let end = shrink::pages_to(new);
-    if first < end {
-        grow_pages(
-            words,
-            tmarks,
-            bytes,
-            fmarks,
-            root as usize,
-            first,
-            end - first,
-        );
-        return Ok(shrink::grown(old, new));
-    }
-    Ok(shrink::grown(old, new))
+    let n = shrink::pages_to(new).saturating_sub(first);
+    grow_pages(words, tmarks, bytes, fmarks, root as usize, first, n);
+    Ok(old.max(new))
 }

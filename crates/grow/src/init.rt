@@ -6,7 +6,9 @@ ghost use Rattle.grow.specs.Init.{padded, InitReason, InitReady, Init};
 
 use refusal::Refusal;
 use store::Store;
+use walk::RootPages;
 
+// Refuses what `judge_root` refuses, a source that does not fit, and page 0 where `judge_fresh` does.
 fn judge_init(store: &Store, root: u64, src: &[u8]) -> Result<(), Refusal>
     ensures { Judges
         (InitReason (seen store.now) root src.now)
@@ -17,7 +19,12 @@ fn judge_init(store: &Store, root: u64, src: &[u8]) -> Result<(), Refusal>
     if src.len() >= 4096 {
         return Err(Refusal::LongSource);
     }
-    fresh::judge_fresh(store, root as usize, 0, 1)
+    let page_0 = RootPages {
+        root: root as usize,
+        first: 0,
+        end: 1,
+    };
+    fresh::judge_fresh(store, page_0)
 }
 
 // The source, then zeros.
@@ -51,6 +58,7 @@ pub fn uvm_init(
     };
     judge_init(&store, root, src)?;
     let f = fresh::enter_frame(words, tmarks, fmarks, root as usize, 0, 31, 0);
-    write_frame(&mut bytes[4096 * f..4096 * f + 4096], src);
+    let to = 4096 * f;
+    write_frame(&mut bytes[to..to + 4096], src);
     Ok(0)
 }

@@ -1,17 +1,16 @@
 -- The reasons of `uvm_dealloc` in order, and what each way out of its judge says. Assumes nothing.
-use mathlib.Core.Path.{◌≡◌, refl, subst₂}
+use mathlib.Core.Path.{◌≡◌, subst₂}
 use mathlib.Core.Logic.{◌⊎◌, inl, inr}
 use mathlib.Core.Bool.{true}
-use Prim.Native.Nat.{ℕ, ◌-◌, ◌≤◌, ◌<◌}
+use Prim.Native.Nat.{ℕ, ◌-◌}
 use native.Mathlib.Omega.{arith}
 use Rattle.std.specs.Prelude.{Result}
 use Rattle.refusal.specs.declared.Refusal.{Refusal}
 use Rattle.store.specs.Store.{Store}
 use Rattle.store.specs.Outcome.{NoReason, Smallest, Judges}
 use Rattle.store.proofs.Outcomes.{first_found, then_judged}
-use Rattle.well_formed.specs.Root.{Asked}
 use Rattle.unmap.specs.Leave.{LeaveReason, LeaveReady}
-use Rattle.unmap.proofs.UnmapReasons.{leave_range, leave_clear, leave_none}
+use Rattle.unmap.proofs.UnmapReasons.{leave_range, leave_clear}
 use Rattle.shrink.specs.Sizes.{pages_to, SizeReason, SizeReady}
 use Rattle.shrink.specs.Shrink.{lost, ShrinkReason, sizes, pages, ShrinkReady}
 use Rattle.shrink.proofs.SizeReasons.{size_upto, size_clear}
@@ -32,16 +31,10 @@ module _ (s : Store) (root old new : ℕ) where
 
   -- the judge of pages is asked about those from first up to end
   module _ (z : SizeReady s root old new) (first end : ℕ) (ef : first ≡ pages_to new) (ee : end ≡ pages_to old) where
-    pub asked : first < end → Asked s root first (end - first) × (first ≤ end)
-    asked h = let r = z.at_root in (record { at_root = r; pages = omega (arith, ee, z.old_small) }, omega arith)
-
     pub by_pages : (n : Result Unit Refusal) → Judges (LeaveReason s root first (end - first) true) (LeaveReady s root first (end - first) true) n → Judges R F n
     by_pages n q =
         then_judged split (λ k. pages) (size_clear s root old new z) (λ f. record { sizes = z; pages = f }) n
         (subst₂ (λ (x y : ℕ). Judges (LeaveReason s root x (y - x) true) (LeaveReady s root x (y - x) true) n) ef ee q)
-
-    pub no_pages : end ≤ first → F
-    no_pages h = record { sizes = z; pages = leave_none s root (pages_to new) (lost old new) true (omega (arith, ef, ee)) }
 
   -- where the call is ready no reason applies
   pub clear : F → NoReason R

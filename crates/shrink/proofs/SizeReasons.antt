@@ -1,11 +1,11 @@
 -- The reasons of a root and two sizes in order, and what each way out of their judge says. Assumes nothing.
-use mathlib.Core.Path.{◌≡◌, refl}
+use mathlib.Core.Path.{refl}
 use mathlib.Core.Logic.{◌⊎◌, inl, inr, ⊎_elim}
-use Prim.Native.Nat.{ℕ, ◌^◌, ◌≤◌}
+use Prim.Native.Nat.{ℕ, ◌≤◌}
 use native.Mathlib.Omega.{arith}
 use Rattle.store.specs.Store.{Store}
 use Rattle.store.specs.Outcome.{NoReason, Smallest}
-use Rattle.store.proofs.Outcomes.{Just, first_found, then_judged, just_one, then_found}
+use Rattle.store.proofs.Outcomes.{Just, first_found, just_one, then_found}
 use Rattle.well_formed.specs.Root.{RootReason, RootReady}
 use Rattle.well_formed.proofs.RootReasons.{root_upto, root_clear}
 use Rattle.shrink.specs.Sizes.{TooLarge, SizeReason, at_root, too_large, SizeReady}
@@ -40,6 +40,3 @@ module _ (s : Store) (root old new : ℕ) where
 
     pub no_6 : TooLarge old new → Smallest R 6
     no_6 h = then_found split six (root_clear s root r) 6 (just_one 6 (TooLarge old new) h)
-
-    pub all_small : old ≤ 2 ^ 38 → new ≤ 2 ^ 38 → F
-    all_small o n = record { at_root = r; old_small = o; new_small = n }

@@ -1,5 +1,5 @@
 -- `uvm_dealloc`: why it is refused, what it answers, and the store afterwards.
-use Rattle.std.specs.Prelude.{◌≡◌, true, cond, ℕ, ◌-◌, leb, Result}
+use Rattle.std.specs.Prelude.{◌≡◌, true, ℕ, ◌-◌, min, Result}
 use Rattle.refusal.specs.declared.Refusal.{Refusal}
 use Rattle.store.specs.Store.{Store}
 use Rattle.store.specs.Outcome.{Outcome}
@@ -20,9 +20,9 @@ pub record ShrinkReady (s : Store) (root old new : ℕ) : Type 0 where
   pub sizes : SizeReady s root old new
   pub pages : LeaveReady s root (pages_to new) (lost old new) true
 
--- new >= old answers old; else these pages leave with freeing, and the answer is new
+-- these pages leave with freeing; the answer is old where new >= old, else new: the lesser
 abbrev pub ShrinkDone : Store → ℕ → ℕ → ℕ → ℕ → Store → Type 0
-ShrinkDone s root old new v s' = (v ≡ cond (leb old new) old new) × (s' ≡ leave_pages s root (pages_to new) (lost old new) true)
+ShrinkDone s root old new v s' = (v ≡ min old new) × (s' ≡ leave_pages s root (pages_to new) (lost old new) true)
 
 abbrev pub Shrink : Store → ℕ → ℕ → ℕ → Result ℕ Refusal → Store → Type 0
 Shrink s root old new r s' = Outcome (ShrinkReason s root old new) (ShrinkDone s root old new) s r s'

@@ -5,4 +5,4 @@ mod shrink;
 mod sizes;
 
 pub use shrink::uvm_dealloc;
-pub use sizes::{grown, judge_sizes, pages_to};
+pub use sizes::{judge_sizes, pages_to};

@@ -6,7 +6,9 @@ ghost use Rattle.shrink.specs.Shrink.{ShrinkReason, ShrinkReady, Shrink};
 use super::sizes;
 use refusal::Refusal;
 use store::Store;
+use walk::RootPages;
 
+// Refuses what `judge_sizes` refuses, and the pages that leave where `judge_leave` does.
 fn judge_shrink(store: &Store, root: u64, old: u64, new: u64) -> Result<(), Refusal>
     ensures { Judges
         (ShrinkReason (seen store.now) root old new)
@@ -19,7 +21,12 @@ fn judge_shrink(store: &Store, root: u64, old: u64, new: u64) -> Result<(), Refu
     if end <= first {
         return Ok(());
     }
-    unmap::judge_leave(store, root as usize, first, end, true)
+    let pages = RootPages {
+        root: root as usize,
+        first,
+        end,
+    };
+    unmap::judge_leave(store, pages, true)
 }
 
 // The pages that old bytes take and new bytes do not leave the root, and their pool frames are given back.
@@ -44,19 +51,7 @@ pub fn uvm_dealloc(
     };
     judge_shrink(&store, root, old, new)?;
     let first = sizes::pages_to(new);
-    let end = sizes::pages_to(old);
-    if first < end {
-        unmap::leave_pages(
-            words,
-            tmarks,
-            bytes,
-            fmarks,
-            root as usize,
-            first,
-            end - first,
-            true,
-        );
-        return Ok(sizes::shrunk(old, new));
-    }
-    Ok(sizes::shrunk(old, new))
+    let n = sizes::pages_to(old).saturating_sub(first);
+    unmap::leave_pages(words, tmarks, bytes, fmarks, root as usize, first, n, true);
+    Ok(old.min(new))
 }

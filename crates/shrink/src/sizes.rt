@@ -1,5 +1,5 @@
 // Sizes in bytes, the pages that they take, and the judge of two of them.
-ghost use Rattle.std.specs.Prelude.{◌≡◌, cond, ◌^◌, ◌≤◌, leb, ltb};
+ghost use Rattle.std.specs.Prelude.{◌≡◌, ◌^◌, ◌≤◌};
 ghost use Rattle.store.specs.Outcome.{Judges};
 ghost use Rattle.store.specs.Store.{seen};
 ghost use Rattle.shrink.specs.Sizes.{pages_to, SizeReason, SizeReady};
@@ -8,7 +8,7 @@ use address::MAXVA;
 use refusal::Refusal;
 use store::Store;
 
-// 1, 2, 3 or 6, or 0.
+// Refuses what `judge_root` refuses, and a size above 2^38.
 pub fn judge_sizes(store: &Store, root: u64, old: u64, new: u64) -> Result<(), Refusal>
     ensures { Judges
         (SizeReason (seen store.now) root old new)
@@ -16,10 +16,7 @@ pub fn judge_sizes(store: &Store, root: u64, old: u64, new: u64) -> Result<(), R
         result }
 {
     well_formed::judge_root(store, root)?;
-    if old > MAXVA {
-        return Err(Refusal::TooHigh);
-    }
-    if new > MAXVA {
+    if old > MAXVA || new > MAXVA {
         return Err(Refusal::TooHigh);
     }
     Ok(())
@@ -31,18 +28,4 @@ pub fn pages_to(size: u64) -> usize
     ensures { result ≡ pages_to size }
 {
     ((size + 4095) / 4096) as usize
-}
-
-// What shrinking from old to new answers.
-pub fn shrunk(old: u64, new: u64) -> u64
-    ensures { result ≡ cond (leb old new) old new }
-{
-    if old <= new { old } else { new }
-}
-
-// What growing from old to new answers.
-pub fn grown(old: u64, new: u64) -> u64
-    ensures { result ≡ cond (ltb new old) old new }
-{
-    if new < old { old } else { new }
 }

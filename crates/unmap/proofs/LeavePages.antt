@@ -2,7 +2,7 @@
 use mathlib.Core.Path.{◌≡◌, refl, sym, ap, ap₂, ◌∙◌, subst}
 use mathlib.Core.Bool.{Bool, false}
 use mathlib.Core.List.{List}
-use Prim.Native.Nat.{ℕ, zero, suc, ◌+◌, ◌-◌, ◌/◌, ◌%◌, ◌^◌, ◌≤◌, ◌<◌}
+use Prim.Native.Nat.{ℕ, zero, suc, ◌+◌, ◌-◌, ◌/◌, ◌%◌, ◌^◌, ◌≤◌, ◌<◌, min}
 use native.Mathlib.Nat.{add-zero, add-suc, suc-add}
 use native.Mathlib.Omega.{arith}
 use lib.ListN.{length}
@@ -142,23 +142,24 @@ module _ (s₀ : Store) (r p n : ℕ) (freeing : Bool) where
       foreign = λ f j l. c.foreign f j (omega arith);
     }
 
-    pub page : i < n → p + i < 2 ^ 26
-    page h = omega (arith, g.ready.range 0 (omega arith))
+    module _ (t : i < n) where
+      -- what the walk to the next page asks
+      pub asks : (r < 512) × (p + i < 2 ^ 27)
+      asks = (root_in s r g.ready.sized g.ready.root, omega (arith, g.ready.range 0 (omega arith)))
 
-    pub is_root : r < 512
-    is_root = root_in s r g.ready.sized g.ready.root
+      -- what the code of the k pages that are left of a block asks, and what holds after it; m is the slot of the first
+      pub can : (k m : ℕ) → k ≡ min (512 - (p + i) % 512) (n - i) → m ≡ slot (slot_word s.words) r 2 (p + i) → (2 ≤ m) × (m + k ≤ 2 + length s.words)
+      can zero m l e = absurd (omega (arith, l, t))
+      can (suc k) m l e =
+          let c = ready (suc k) (omega (arith, l)) in
+          (omega (arith, e, first_slot k s r (p + i) freeing c), omega (arith, e, run_upto k s r (p + i) freeing c (omega (arith, l))))
 
-    -- what its code asks
-    pub can : (k m : ℕ) → m ≡ slot (slot_word s.words) r 2 (p + i) → 0 < k → i + k ≤ n → (p + i) % 512 + k ≤ 512 → (2 ≤ m) × (m + k ≤ 2 + length s.words)
-    can zero m e o h l = absurd (omega arith)
-    can (suc k) m e o h l = let c = ready (suc k) h in (omega (arith, e, first_slot k s r (p + i) freeing c), omega (arith, e, run_upto k s r (p + i) freeing c l))
-
-    -- what holds after it
-    pub after : (k m : ℕ) → m ≡ slot (slot_word s.words) r 2 (p + i) → 0 < k → i + k ≤ n → (p + i) % 512 + k ≤ 512 → (s' : Store) → s' ≡ leave_run s m k freeing → Leaving s₀ r p n freeing s' (i + k)
-    after zero m e o h l s' q = absurd (omega arith)
-    after (suc k) m e o h l s' q =
-        subst (λ (x : Store). Leaving s₀ r p n freeing x (i + suc k)) (by_run k s r (p + i) freeing (ready (suc k) h) l ∙ ap (λ (x : ℕ). leave_run s x (suc k) freeing) (sym e) ∙ sym q)
-        (onward (suc k) s i g h)
+      pub after : (k m : ℕ) → k ≡ min (512 - (p + i) % 512) (n - i) → m ≡ slot (slot_word s.words) r 2 (p + i) → (s' : Store) → s' ≡ leave_run s m k freeing → Leaving s₀ r p n freeing s' (i + k)
+      after zero m l e s' q = absurd (omega (arith, l, t))
+      after (suc k) m l e s' q =
+          let h : i + suc k ≤ n = omega (arith, l) in
+          subst (λ (x : Store). Leaving s₀ r p n freeing x (i + suc k)) (by_run k s r (p + i) freeing (ready (suc k) h) (omega (arith, l)) ∙ ap (λ (x : ℕ). leave_run s x (suc k) freeing) (sym e) ∙ sym q)
+          (onward (suc k) s i g h)
 
 -- what the judge showed is enough
 pub leavable : (s : Store) (r p n : ℕ) (freeing : Bool) → CanLeave s r p n freeing → Leavable n s r p freeing

@@ -1,6 +1,6 @@
 -- What the code of a slot and of a run does to words and frame marks, as the definitions say it of a store. Assumes nothing.
 use mathlib.Core.Path.{◌≡◌, sym, ap, ap₂, ◌∙◌}
-use mathlib.Core.Bool.{Bool, true, false, cond}
+use mathlib.Core.Bool.{Bool, cond}
 use mathlib.Core.List.{List, ◌++◌}
 use Prim.Native.Nat.{ℕ, suc, ◌+◌, ◌-◌, ◌≤◌, ◌<◌}
 use native.Mathlib.Omega.{arith}
@@ -12,18 +12,17 @@ use borrow.Author.Tests.{le-leb, lt-leb}
 use Rattle.store.specs.Store.{Store, store_of, frame_no}
 use Rattle.store.specs.Walk.{slot_word}
 use Rattle.store.proofs.Tree.{slot_word_lem}
-use Rattle.enter.specs.Enter.{put_slot}
 use Rattle.enter.proofs.Slots.{put_in}
 use Rattle.unmap.specs.Leave.{given_back, leave_slot, leave_run, FramesBecome}
 
--- a frame below the pool, and one from its start on
-pub given_none : (fs : List ℕ) (e : ℕ) → frame_no e < 0x11_0000 → fs ≡ given_back fs e
+-- a frame below the pool, and frame f after its start
+pub given_none : (fs : List ℕ) (e : ℕ) → (0x11_0000 ≤ frame_no e → ⊥) → fs ≡ given_back fs e
 unfolding given_back
-given_none fs e h = rw (lt-leb 0x11_0000 (frame_no e) h)
+given_none fs e n = rw (lt-leb 0x11_0000 (frame_no e) (omega arith))
 
-pub given_one : (fs : List ℕ) (e : ℕ) → 0x11_0000 ≤ frame_no e → set fs (frame_no e - 0x11_0000) 0 ≡ given_back fs e
+pub given_one : (fs : List ℕ) (e f : ℕ) → (0x11_0000 ≤ frame_no e) × (f ≡ frame_no e - 0x11_0000) → set fs f 0 ≡ given_back fs e
 unfolding given_back
-given_one fs e h = rw (le-leb 0x11_0000 (frame_no e) h)
+given_one fs e f (h, q) = rw (le-leb 0x11_0000 (frame_no e) h, q)
 
 -- one slot: its word was e, and the frame marks become fs'
 slot_left : (ws fs : List ℕ) (m e : ℕ) (freeing : Bool) (fs' : List ℕ) → 2 ≤ m → e ≡ get_or ws (m - 2) 0 → fs' ≡ cond freeing (given_back fs e) fs → FramesBecome ws fs (λ s. leave_slot s m freeing) (set ws (m - 2) 0) fs'

@@ -3,15 +3,13 @@ ghost use Rattle.std.specs.Prelude.{◌≡◌, ◌+◌, ◌<◌, ◌≤◌, leng
 ghost use Rattle.store.specs.Store.{Store, store_of};
 ghost use Rattle.unmap.specs.Leave.{given_back, leave_run, leave_pages, FramesBecome, CanLeave};
 
-// Entry e has gone: the pool frame that it names, if it names one, is free again.
+// Entry e goes: the pool frame that it names, if it names one, is free again.
 fn give_back(fmarks: &mut [u32], e: u64)
     ensures { fmarks.new ≡ given_back fmarks.old e }
 {
-    let frame = (e / 1024) as usize;
-    if frame < 0x11_0000 {
-        return;
+    if let Some(f) = (e / 1024).checked_sub(0x11_0000) {
+        enter::put_mark(fmarks, f as usize, 0);
     }
-    enter::put_mark(fmarks, frame - 0x11_0000, 0);
 }
 
 // The words of n slots from slot m on become 0; with freeing, their pool frames are given back.

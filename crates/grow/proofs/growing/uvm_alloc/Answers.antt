@@ -1,33 +1,7 @@
 -- `grow::growing::uvm_alloc` meets its contract. Assumes nothing.
-use mathlib.Core.Path.{refl}
-use Rattle.std.proofs.lemmas.Result.{err_from_is_err_and}
-use Rattle.grow.proofs.GrowLaws.{may_grow, done_all, done_none}
-use Rattle.store.specs.Store.{store_of}
+use Rattle.grow.proofs.GrowLaws.{done}
 use Rattle.grow.proofs.growing.uvm_alloc.Goals as goal
-
-pub returns-in_err-judge_grow : goal.returns-in_err-judge_grow
-returns-in_err-judge_grow c = let p = err_from_is_err_and c.from_residual.result c.from_residual.ensures.1 in rw (p.1, p.2) (c.in_err-judge_grow.ensures, refl)
-
-pub pages_to-first-requires : goal.pages_to-first-requires
-pages_to-first-requires c = (c.in_ok-judge_grow.ensures).sizes.old_small
-
-pub pages_to-end-requires : goal.pages_to-end-requires
-pages_to-end-requires c = (c.in_ok-judge_grow.ensures).sizes.new_small
-
-pub grow_pages-requires : goal.grow_pages-requires
-grow_pages-requires c =
-    let a = c.args in
-    let f = c.in_ok-judge_grow.ensures in
-    may_grow (store_of a.words.now a.tmarks.now a.bytes.now a.fmarks.now) a.root a.old a.new f _ _ c.pages_to-first.ensures c.pages_to-end.ensures c.if-first-end.true
-
-pub returns-then-first-end : goal.returns-then-first-end
-returns-then-first-end c =
-    let a = c.args in
-    let f = c.in_ok-judge_grow.ensures in
-    done_all (store_of a.words.now a.tmarks.now a.bytes.now a.fmarks.now) a.root a.old a.new f _ _ c.pages_to-first.ensures c.pages_to-end.ensures _ _ c.grown.ensures c.grow_pages.ensures
 
 pub returns : goal.returns
 returns c =
-    let a = c.args in
-    let f = c.in_ok-judge_grow.ensures in
-    done_none (store_of a.words.now a.tmarks.now a.bytes.now a.fmarks.now) a.root a.old a.new f _ _ c.pages_to-first.ensures c.pages_to-end.ensures _ c.grown-2.ensures c.if-first-end.false
+    done _ _ _ _ c.in_ok-judge_grow.ensures _ _ _ c.pages_to-first.ensures c.pages_to.ensures c.saturating_sub-n.ensures _ _ c.max.ensures c.grow_pages.ensures

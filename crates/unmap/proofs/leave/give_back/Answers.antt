@@ -3,8 +3,8 @@ use mathlib.Core.Path.{◌∙◌}
 use Rattle.unmap.proofs.LeaveSlots.{given_none, given_one}
 use Rattle.unmap.proofs.leave.give_back.Goals as goal
 
-pub returns-then-frame-lt1114112 : goal.returns-then-frame-lt1114112
-returns-then-frame-lt1114112 c = given_none c.args.fmarks.now c.args.e c.if-frame-lt1114112.true
+pub returns-in-Some : goal.returns-in-Some
+returns-in-Some c = c.put_mark.ensures ∙ given_one _ _ _ c.in-Some.ensures
 
-pub returns : goal.returns
-returns c = c.put_mark.ensures ∙ given_one c.args.fmarks.now c.args.e c.if-frame-lt1114112.false
+pub returns-in_default : goal.returns-in_default
+returns-in_default c = given_none _ _ c.in_default.ensures

@@ -1,9 +1,0 @@
--- `shrink::sizes::grown` meets its contract. Assumes nothing.
-use borrow.Author.Tests.{lt-ltb, le-ltb}
-use Rattle.shrink.proofs.sizes.grown.Goals as goal
-
-pub returns-then-new-old : goal.returns-then-new-old
-returns-then-new-old c = rw (lt-ltb c.args.new c.args.old c.if-new-old.true)
-
-pub returns-else-new-old : goal.returns-else-new-old
-returns-else-new-old c = rw (le-ltb c.args.new c.args.old c.if-new-old.false)
