@@ -1,7 +1,7 @@
 -- A turn of the loops that read and write bytes, a page's part at a time. Assumes nothing.
 use mathlib.Core.Path.{◌≡◌, refl, sym, ap, ap₂, ◌∙◌}
 use mathlib.Core.Logic.{inl}
-use mathlib.Core.List.{List, ◌++◌, append_assoc, append-nil}
+use mathlib.Core.List.{List, ◌++◌, append_assoc}
 use Prim.Native.Nat.{ℕ, ◌+◌, ◌-◌, ◌%◌, ◌≤◌, ◌<◌, min}
 use native.Mathlib.Omega.{arith}
 use lib.ListN.{length, take, drop, length-drop, take-append-drop}
@@ -47,11 +47,6 @@ module _ (s : Store) (r va : ℕ) (dst₀ dst : List ℕ) (i : ℕ) (h : Reading
         ap₂ (λ (y z : List ℕ). y ++ (x ++ z)) t q ∙ ap (λ (y : List ℕ). bytes_at s r va i ++ (y ++ drop (i + k) dst₀)) b
         ∙ sym (append_assoc (bytes_at s r va i) (bytes_at s r (va + i) k) (drop (i + k) dst₀))
         ∙ ap (λ (y : List ℕ). y ++ drop (i + k) dst₀) (sym (bytes_add s r va i k))
-
-  pub read_all : i ≡ length dst₀ → dst ≡ bytes_at s r va (length dst₀)
-  read_all e =
-      let b : List ℕ = bytes_at s r va (length dst₀) in
-      h ∙ ap (λ (j : ℕ). bytes_at s r va j ++ drop j dst₀) e ∙ ap (λ (y : List ℕ). b ++ y) (drop-length dst₀) ∙ append-nil b
 
 -- ---- the bytes that are left to write, from byte i of the source on, give the whole
 
