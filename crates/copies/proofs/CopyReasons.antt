@@ -83,7 +83,7 @@ module _ (s : Store) (root va n : ℕ) where
         low i (inl x) = omega arith
         low i (inr x) = omega arith
 
-        pub pages : (va / 4096 ≤ e) × (e ≤ 2 ^ 26)
+        pages : (va / 4096 ≤ e) × (e ≤ 2 ^ 26)
         pages = by_cases (dec_lt 0 n) (λ h. (omega arith, omega arith)) (λ h. (omega arith, omega arith))
 
         page_of_lem : (i : ℕ) → Needs n i → (va / 4096 ≤ (va + i) / 4096) × ((va + i) / 4096 < e)

@@ -3,10 +3,9 @@ use mathlib.Core.Path.{◌≡◌, refl, sym, ap, ◌∙◌}
 use mathlib.Core.List.{List}
 use Prim.Native.Nat.{ℕ}
 use lib.ListN.{length}
-use Rattle.std.specs.Prelude.{Result, Ok, Err}
+use Rattle.std.specs.Prelude.{Result, Ok}
 use Rattle.refusal.specs.declared.Refusal.{Refusal}
 use Rattle.store.specs.Store.{Store, store_of}
-use Rattle.store.specs.Outcome.{Smallest}
 use Rattle.store.proofs.Outcomes.{one_outcome}
 use Rattle.copies.specs.Bytes.{bytes_at, written}
 use Rattle.copies.specs.Needed.{CopyReason, CopyReady}

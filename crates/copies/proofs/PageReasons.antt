@@ -1,5 +1,5 @@
 -- Why the page of an address may not be used, from the bits of its word. Assumes nothing.
-use mathlib.Core.Path.{◌≡◌, refl, sym, ap, ◌∙◌}
+use mathlib.Core.Path.{◌≡◌, sym, ap, ◌∙◌}
 use mathlib.Core.Logic.{by_cases}
 use mathlib.Core.List.{List}
 use Prim.Native.Nat.{ℕ, ◌+◌, ◌-◌, ◌*◌, ◌/◌, ◌%◌, ◌^◌, ◌≤◌, ◌<◌}
@@ -125,7 +125,7 @@ placed s r a f p = record {
 
 -- what the code of that place finds
 module _ (ws : List ℕ) (r a m e : ℕ) (em : m ≡ slot (slot_word ws) r 2 (a / 4096)) (ee : e ≡ slot_word ws m) where
-  pub place_word : e ≡ entry_in ws r 2 (a / 4096)
+  place_word : e ≡ entry_in ws r 2 (a / 4096)
   place_word = ee ∙ ap (slot_word ws) em
 
   pub place_is : IsPlace ws r a (4096 * (e / 1024 - 0x11_0000) + a % 4096)

@@ -1,5 +1,5 @@
 -- `copies::needed::judge_page` meets its contract. Assumes nothing.
-use Rattle.std.proofs.Common.{arith, rules, tests}
+use Rattle.std.proofs.Common.{rules, tests}
 use Rattle.copies.proofs.PageReasons.{no_6, no_11, no_12, no_15, all_ready}
 use Rattle.copies.proofs.needed.judge_page.Goals as goal
 
