@@ -108,7 +108,7 @@ module _ (s : Store) (z : Sized s) (w : TreeOf s) (t : ℕ) (tl : t < length s.t
 
 -- what holds after the call
 pub create_creates : (s s' : Store) (v : ℕ) → Sized s → WellFormed s → 0 < free_tables s → Create s (Ok v) s' → Created s v s'
-create_creates s s' v z w f d =
+create_creates s t v z w f d =
     let l = lowest_free s.tmarks f in
     subst (λ (x : Store). Created s v x) (sym d.1.1)
     (subst (λ (t : ℕ). Created s t (rooted s (lowest s.tmarks))) (sym d.1.0) (created s z (tree_of s z w) (lowest s.tmarks) l.0 l.1))

@@ -48,7 +48,7 @@ module _ (s : Store) (root va pa size perm : ℕ) where
 
     kept : Kept s root va pa size perm
     kept = record {
-      exactly = (λ d. room_of d.2.0, λ room. (_, _, (clear s root va pa size perm (ready room), (refl, refl))));
+      exactly = (λ d. room_of d.2.0, λ room. (_, _, (clear _ _ _ _ _ _ (ready room), (refl, refl))));
       entered = λ v s' d. subst (Entered s root (first_page va) n (pa / 4096) perm) (sym d.1.1) (ready_entered s root va pa size perm (ready (room_of d.0)));
       answer = λ v s' d. d.1.0;
     }

@@ -1,8 +1,8 @@
 -- What each way out of `map` says, and that two answers to one call are the same. Assumes nothing.
-use mathlib.Core.Path.{◌≡◌, refl, sym, ap, ap₂, ◌∙◌, subst}
+use mathlib.Core.Path.{◌≡◌, sym, ap, ap₂, ◌∙◌, subst}
 use Prim.Native.Nat.{ℕ, ◌-◌, ◌*◌, ◌/◌, ◌^◌, ◌≤◌, ◌<◌}
 use native.Mathlib.Omega.{arith}
-use Rattle.std.specs.Prelude.{Result, Ok, Err}
+use Rattle.std.specs.Prelude.{Result, Ok}
 use Rattle.refusal.specs.declared.Refusal.{Refusal}
 use Rattle.address.specs.Answer.{Said, answered, refused}
 use Rattle.address.proofs.Answers.{value, clash}
@@ -10,10 +10,8 @@ use Rattle.page_table_entry.specs.Built.{entry_of, Written}
 use Rattle.page_table_entry.proofs.Built.{entry}
 use Rattle.rounding.specs.Range.{first_page, end_page}
 use Rattle.store.specs.Store.{Store}
-use Rattle.store.specs.Outcome.{Smallest}
 use Rattle.store.proofs.Outcomes.{one_outcome}
 use Rattle.walk.specs.Missing.{missing_in, missing}
-use Rattle.walk.proofs.Calls.{root_in}
 use Rattle.walk.proofs.MissingLaws.{missing_in_lem, missing_none}
 use Rattle.map.specs.Numbers.{pages_of}
 use Rattle.map.specs.Reasons.{MapReason, MapReady}
@@ -37,7 +35,7 @@ module _ (s : Store) (root va pa size perm : ℕ) where
     unfolding enter_pages
     done_none h =
         let z : n ≡ 0 = omega arith in (
-          clear s root va pa size perm f,
+          clear _ _ _ _ _ _ f,
           (
             sym (ap (missing s root (first_page va)) z ∙ missing_none s root (first_page va)),
             ap (λ (k : ℕ). enter_pages s root (first_page va) k (entry_of pa perm)) (sym z),
@@ -56,9 +54,6 @@ module _ (s : Store) (root va pa size perm : ℕ) where
       pub never : (a : Said) (k : ℕ) → Written pa perm a → a ≡ refused k → ⊥
       never a k w q = clash (sym q ∙ word a w)
 
-      pub pages_asked : (root < 512) × (first ≤ end) × (end ≤ 2 ^ 26)
-      pages_asked = (root_in s root f.at_root.sized f.at_root.is_root, omega arith, omega (arith, f.numbers.pages (omega arith)))
-
       module _ (a : Said) (e : ℕ) (w : Written pa perm a) (q : a ≡ answered e) where
         is : e ≡ entry_of (4096 * (pa / 4096)) perm
         is = value (sym q ∙ word a w) ∙ entry_rounded pa perm
@@ -76,7 +71,7 @@ module _ (s : Store) (root va pa size perm : ℕ) where
         pub done : (v : ℕ) (s' : Store) → v ≡ missing_in s.words root first (end - first) → s' ≡ enter_pages s root first (end - first) e → Map s root va pa size perm (Ok v) s'
         done v s' ev es =
             let k : end - first ≡ n = omega arith in (
-              clear s root va pa size perm f,
+              clear _ _ _ _ _ _ f,
               (
                 ev ∙ missing_in_lem s root first (end - first) ∙ ap₂ (missing s root) ef k,
                 es ∙ ap₂ (λ (p m : ℕ). enter_pages s root p m e) ef k ∙ ap (enter_pages s root (first_page va) n) (value (sym q ∙ word a w)),

@@ -1,6 +1,6 @@
 -- What each way out of the judge of the numbers says. Assumes nothing.
-use mathlib.Core.Path.{◌≡◌, refl}
-use mathlib.Core.Logic.{by_cases}
+use mathlib.Core.Path.{◌≡◌}
+use mathlib.Core.Logic.{◌⊎◌, inl, inr, by_cases}
 use Prim.Native.Nat.{ℕ, ◌+◌, ◌-◌, ◌/◌, ◌^◌, ◌≤◌, ◌<◌}
 use native.Mathlib.Decide.{dec_lt}
 use native.Mathlib.Omega.{arith}
@@ -35,48 +35,29 @@ module _ (va pa size perm : ℕ) where
   pub ready_least : F → (k n : ℕ) → k < n → R k → ⊥
   ready_least f k n l = least n (λ _. (f.length, f.pages)) (λ _. f.perms) (λ _. f.frames) (λ _. f.outside) k l
 
-  pub long : 2 ^ 38 < size → Smallest R 6
-  long h = record { applies = too_long h; least = least 6 (λ l. absurd (omega arith)) (λ l. absurd (omega arith)) (λ l. absurd (omega arith)) (λ l. absurd (omega arith)) }
+  module _ (first end : ℕ) (ef : first ≡ first_page va) (ee : end ≡ end_page va size) where
+    pub high : (2 ^ 38 < size) ⊎ ((first < end) × (2 ^ 26 < end)) → Smallest R 6
+    high h = record { applies = six h; least = least 6 (λ l. absurd (omega arith)) (λ l. absurd (omega arith)) (λ l. absurd (omega arith)) (λ l. absurd (omega arith)) }
+      where
+        six : (2 ^ 38 < size) ⊎ ((first < end) × (2 ^ 26 < end)) → R 6
+        six (inl s) = too_long s
+        six (inr q) = too_high (end - 1) (omega (arith, q.0)) (omega (arith, q.0)) (omega (arith, q.1))
 
-  module _ (s : size ≤ 2 ^ 38) (first end : ℕ) (ef : first ≡ first_page va) (ee : end ≡ end_page va size) where
-    -- no page is asked for
-    module _ (h : end ≤ first) where
-      pub none_perm : 1023 < perm → Smallest R 8
-      none_perm p = record { applies = permissions p; least = least 8 (λ l. (s, λ q. absurd (omega arith))) (λ l. absurd (omega arith)) (λ l. absurd (omega arith)) (λ l. absurd (omega arith)) }
+    module _ (s : size ≤ 2 ^ 38) (q : first < end → end ≤ 2 ^ 26) where
+      fits : (size ≤ 2 ^ 38) × Pages
+      fits = (s, λ h. omega (arith, q (omega arith)))
 
-      pub none : perm ≤ 1023 → F
-      none p = record { length = s; pages = λ q. absurd (omega arith); perms = p; frames = λ i l. absurd (omega arith); outside = λ i l. absurd (omega arith) }
+      pub perm_high : 1023 < perm → Smallest R 8
+      perm_high p = record { applies = permissions p; least = least 8 (λ l. fits) (λ l. absurd (omega arith)) (λ l. absurd (omega arith)) (λ l. absurd (omega arith)) }
 
-    module _ (h : first < end) where
-      pub high : 2 ^ 26 < end → Smallest R 6
-      high q = record { applies = too_high (end - 1) (omega arith) (omega arith) (omega arith); least = least 6 (λ l. absurd (omega arith)) (λ l. absurd (omega arith)) (λ l. absurd (omega arith)) (λ l. absurd (omega arith)) }
+      module _ (p : perm ≤ 1023) (h : first < end) where
+        pub above : 2 ^ 44 < pa / 4096 + (end - first) → Smallest R 9
+        above u = record { applies = frame_high (end - first - 1) (omega arith) (omega arith); least = least 9 (λ l. fits) (λ l. p) (λ l. absurd (omega arith)) (λ l. absurd (omega arith)) }
 
-      module _ (q : end ≤ 2 ^ 26) where
-        six : (size ≤ 2 ^ 38) × Pages
-        six = (s, λ _. omega arith)
-
-        pub perm_high : 1023 < perm → Smallest R 8
-        perm_high p = record { applies = permissions p; least = least 8 (λ l. six) (λ l. absurd (omega arith)) (λ l. absurd (omega arith)) (λ l. absurd (omega arith)) }
-
-        module _ (p : perm ≤ 1023) (frame past : ℕ) (ea : frame ≡ pa / 4096) (ep : past ≡ frame + (end - first)) where
-          pub above : 2 ^ 44 < past → Smallest R 9
-          above u = record { applies = frame_high (end - first - 1) (omega arith) (omega arith); least = least 9 (λ l. six) (λ l. p) (λ l. absurd (omega arith)) (λ l. absurd (omega arith)) }
-
-          module _ (u : past ≤ 2 ^ 44) where
-            low : Low
-            low i l = omega arith
-
-            all : Outside → F
-            all o = record { length = s; pages = λ _. omega arith; perms = p; frames = low; outside = o }
-
-            pub before_window : past ≤ 0x10_0000 → F
-            before_window v = all (λ i l w. omega (arith, w.from))
-
-            pub after_window : 0x12_0000 ≤ frame → F
-            after_window v = all (λ i l w. omega (arith, w.upto))
-
-            pub in_window_lem : 0x10_0000 < past → frame < 0x12_0000 → Smallest R 10
-            in_window_lem v w = record { applies = meets; least = least 10 (λ l. six) (λ l. p) (λ l. low) (λ l. absurd (omega arith)) }
-              where
-                meets : R 10
-                meets = by_cases (dec_lt frame 0x10_0000) (λ b. held (0x10_0000 - frame) (omega arith) (record { from = omega arith; upto = omega arith })) (λ b. held 0 (omega arith) (record { from = omega arith; upto = omega arith }))
+        pub in_window : pa / 4096 + (end - first) ≤ 2 ^ 44 → 0x10_0000 < pa / 4096 + (end - first) → pa / 4096 < 0x12_0000 → Smallest R 10
+        in_window u v w = record { applies = meets; least = least 10 (λ l. fits) (λ l. p) (λ l i k. omega arith) (λ l. absurd (omega arith)) }
+          where
+            meets : R 10
+            meets =
+                by_cases (dec_lt (pa / 4096) 0x10_0000) (λ b. held (0x10_0000 - pa / 4096) (omega arith) (record { from = omega arith; upto = omega arith }))
+                (λ b. held 0 (omega arith) (record { from = omega arith; upto = omega arith }))

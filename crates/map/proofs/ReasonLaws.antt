@@ -1,5 +1,5 @@
 -- The reasons of `map` in order, and what each way out of its judge says. Assumes nothing.
-use mathlib.Core.Path.{◌≡◌, refl, sym, ap, ◌∙◌}
+use mathlib.Core.Path.{◌≡◌, sym, ap, ◌∙◌}
 use mathlib.Core.Logic.{◌⊎◌, inl, inr}
 use Prim.Native.Nat.{ℕ, suc, ◌-◌, ◌≤◌, ◌<◌}
 use native.Mathlib.Nat.{le_refl}
@@ -50,8 +50,8 @@ module _ (s : Store) (root va pa size perm : ℕ) where
   split k (taken p f t h) = inr (omega arith)
   split k (too_few h) = inr (omega arith)
 
-  pub by_root : (n : ℕ) → Smallest (RootReason s root) n → Smallest R n
-  by_root = root_first s root (λ k. at_root) split
+  pub by_root : {n : ℕ} → Smallest (RootReason s root) n → Smallest R n
+  by_root {n} = root_first s root (λ k. at_root) split n
 
   module _ (r : RootReady s root) where
     least : (n : ℕ) → ((k : ℕ) → k < n → N k → ⊥) → (14 < n → Unmapped) → (17 < n → Enough) → (k : ℕ) → k < n → R k → ⊥
@@ -60,8 +60,8 @@ module _ (s : Store) (root va pa size perm : ℕ) where
     least n o u e k l (taken p f t h) = u l p f t h
     least n o u e k l (too_few h) = omega (arith, e l)
 
-    pub no_numbers_lem : (n : ℕ) → Smallest N n → Smallest R n
-    no_numbers_lem n m =
+    pub no_numbers_lem : {n : ℕ} → Smallest N n → Smallest R n
+    no_numbers_lem {n} m =
         let b = number_range m.applies in
         record { applies = numbers m.applies; least = least n m.least (λ l. absurd (omega arith)) (λ l. absurd (omega arith)) }
 

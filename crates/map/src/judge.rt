@@ -1,4 +1,4 @@
-// The judge of map: the smallest refusal that applies, or 0. It only reads.
+// The judge of map: the smallest refusal that applies. It only reads.
 ghost use Rattle.store.specs.Outcome.{Judges};
 ghost use Rattle.store.specs.Store.{seen};
 ghost use Rattle.map.specs.Numbers.{NumberReason, NumbersReady};
@@ -17,7 +17,7 @@ const WINDOW: u64 = 0x10_0000;
 
 const WINDOW_END: u64 = 0x12_0000;
 
-// What the numbers alone are refused with: 6, 8, 9 or 10, or 0. Where no page is asked for there is no frame either.
+// Why the numbers alone are refused, which is 6, 8, 9 or 10. Where no page is asked for there is no frame either.
 fn judge_numbers(
     va: VirtualAddress,
     pa: PhysicalAddress,
@@ -26,36 +26,27 @@ fn judge_numbers(
 ) -> Result<(), Refusal>
     ensures { Judges (NumberReason va.0 pa.0 size perm) (NumbersReady va.0 pa.0 size perm) result }
 {
-    if size > MAXVA {
-        return Err(Refusal::TooHigh);
-    }
     let range = rounding::page_range(va, size);
     let first = range.first;
     let end = range.end;
-    if end <= first {
-        if perm > 1023 {
-            return Err(Refusal::Permissions);
-        }
-        return Ok(());
-    }
-    if end > PAGES {
+    if size > MAXVA || (first < end && end > PAGES) {
         return Err(Refusal::TooHigh);
     }
     if perm > 1023 {
         return Err(Refusal::Permissions);
+    }
+    if end <= first {
+        return Ok(());
     }
     let frame = pa.0 / 4096;
     let past = frame + (end - first);
     if past > FRAMES {
         return Err(Refusal::FrameTooHigh);
     }
-    if past <= WINDOW {
-        return Ok(());
+    if past > WINDOW && frame < WINDOW_END {
+        return Err(Refusal::HeldWindow);
     }
-    if frame >= WINDOW_END {
-        return Ok(());
-    }
-    Err(Refusal::HeldWindow)
+    Ok(())
 }
 
 pub fn judge_map(

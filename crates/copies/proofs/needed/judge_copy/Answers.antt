@@ -1,7 +1,6 @@
 -- `copies::needed::judge_copy` meets its contract. Assumes nothing.
 use Rattle.std.proofs.lemmas.Result.{err_from_is_err_and}
-use Rattle.copies.proofs.CopyReasons.{by_root, no_6, no_6_end, no_11, no_12, no_15, all_ready, pages}
-use Rattle.walk.proofs.Calls.{root_in}
+use Rattle.copies.proofs.CopyReasons.{by_root, no_6, no_6_end, no_11, no_12, no_15, all_ready}
 use Rattle.copies.proofs.needed.judge_copy.Goals as goal
 
 pub returns-in_err-judge_root : goal.returns-in_err-judge_root
@@ -12,12 +11,6 @@ returns-then-va-ge-MAXVA c = no_6 _ _ _ _ c.in_ok-judge_root.ensures c.if-va-ge-
 
 pub returns-then-n-va : goal.returns-then-n-va
 returns-then-n-va c = no_6_end _ _ _ _ c.in_ok-judge_root.ensures c.if-va-ge-MAXVA.false c.if-n-va.true
-
-pub invariant_of-pages : goal.invariant_of-pages
-invariant_of-pages c =
-    let f = c.in_ok-judge_root.ensures in
-    let p = pages _ _ _ _ f c.if-va-ge-MAXVA.false c.if-n-va.false _ c.pages_end-end.ensures in
-    record { of_a_table = root_in _ _ f.sized f.is_root; in_order = p.0; within = p.1 }
 
 pub returns-then-count_pages-end : goal.returns-then-count_pages-end
 returns-then-count_pages-end c =
