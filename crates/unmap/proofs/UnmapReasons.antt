@@ -44,10 +44,6 @@ leave_where s r p n freeing none = record {
   full = λ i l b. none 13 (bare i l b);
 }
 
--- no pages are always ready
-pub leave_none : (s : Store) (r p n : ℕ) (freeing : Bool) → n ≡ 0 → LeaveReady s r p n freeing
-leave_none s r p n freeing h = record { foreign = λ m. omega (arith, m.2); mapped = λ i l. absurd (omega arith); full = λ i l. absurd (omega arith) }
-
 -- pages none of which lies too high are pages of a root
 pub in_reach : (s : Store) (root p n : ℕ) → RootReady s root → (TooHigh p n → ⊥) → (n ≡ 0 → ⊥) → (root < 512) × (p ≤ p + n) × (p + n ≤ 2 ^ 26)
 in_reach s root p n r t h = (root_in s root r.sized r.is_root, omega arith, within p n (omega arith) t)

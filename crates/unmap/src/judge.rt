@@ -63,6 +63,7 @@ fn too_high(first: u64, n: u64) -> bool
     n != 0 && (n > PAGES || first + n > PAGES)
 }
 
+// Refuses what `judge_root` refuses, pages that lie too high, an address that is not aligned, and the pages where `judge_leave` does.
 pub fn judge_unmap(
     store: &Store,
     root: u64,
