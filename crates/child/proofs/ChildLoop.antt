@@ -1,7 +1,7 @@
 -- The loop that gives a child the pages of its parent: what holds before each page, at the start and after it. Assumes nothing.
 use mathlib.Core.Path.{◌≡◌, sym, ap, ◌∙◌, subst, subst₂}
 use mathlib.Core.List.{List}
-use Prim.Native.Nat.{ℕ, suc, ◌+◌, ◌-◌, ◌*◌, ◌/◌, ◌^◌, ◌≤◌, ◌<◌}
+use Prim.Native.Nat.{ℕ, suc, ◌+◌, ◌-◌, ◌*◌, ◌/◌, ◌≤◌, ◌<◌}
 use native.Mathlib.Nat.{zero-add}
 use native.Mathlib.Numerals.{add-one}
 use native.Mathlib.Omega.{arith}
@@ -12,7 +12,6 @@ use Rattle.store.specs.Count.{lowest}
 use Rattle.store.specs.Walk.{slot_word, slot, entry_at, resolve}
 use Rattle.store.proofs.Scans.{in_range}
 use Rattle.store.proofs.Tree.{tree_of}
-use Rattle.walk.proofs.Calls.{root_in}
 use Rattle.enter.proofs.Hang.{lowest_free}
 use Rattle.unmap.specs.Leave.{PoolFrame}
 use Rattle.fresh.specs.Fill.{framed}
@@ -65,9 +64,6 @@ module _ (s₀ : Store) (parent child size : ℕ) (c : ChildReady s₀ parent ch
   module _ (ws ms bs fs : List ℕ) (i a : ℕ) (g : Copying s₀ parent child size (store_of ws ms bs fs) i a) (h : i < size / 4096) where
     abbrev s : Store
     s = store_of ws ms bs fs
-
-    pub may_walk : (parent < 512) × (i < 2 ^ 27)
-    may_walk = (root_in s parent g.growing.ready.sized g.spared.root, omega (arith, c.small))
 
     pub fits : FrameFits ws ms fs child i a
     fits = subst (λ (x : ℕ). FrameFits ws ms fs child x a) (zero-add i) (loop.fits s₀ child 0 (size / 4096) q b s i a g.growing h)

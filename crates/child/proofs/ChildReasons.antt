@@ -1,7 +1,7 @@
 -- The reasons of `uvm_copy` in order, and what each way out of its judge says. Assumes nothing.
 use mathlib.Core.Path.{◌≡◌, refl}
 use mathlib.Core.Logic.{◌⊎◌, inl, inr, ⊎_elim}
-use Prim.Native.Nat.{ℕ, ◌-◌, ◌/◌, ◌%◌, ◌^◌, ◌≤◌, ◌<◌}
+use Prim.Native.Nat.{ℕ, ◌/◌, ◌%◌, ◌^◌, ◌≤◌, ◌<◌}
 use native.Mathlib.Omega.{arith}
 use Rattle.store.specs.Store.{Store, mark}
 use Rattle.std.specs.Prelude.{Result, Ok, Err}
@@ -9,9 +9,8 @@ use Rattle.refusal.specs.declared.Refusal.{Refusal}
 use Rattle.refusal.specs.Number.{number_of}
 use Rattle.store.specs.Outcome.{NoReason, Smallest, Judges}
 use Rattle.store.proofs.Outcomes.{then_found, JustThen, just_from, just_found, then_other}
-use Rattle.well_formed.specs.Root.{RootReason, sizes, unformed, no_root, RootReady, Asked}
+use Rattle.well_formed.specs.Root.{RootReason, sizes, unformed, no_root, RootReady}
 use Rattle.well_formed.proofs.RootReasons.{root_upto, root_clear}
-use Rattle.walk.proofs.Calls.{root_in}
 use Rattle.fresh.specs.Fresh.{FreshReason, taken, no_frames, no_tables}
 use Rattle.fresh.proofs.FreshReasons.{fresh_clear}
 use Rattle.child.specs.Child.{ChildReason, at_parent, at_child, same, too_large, unaligned, unmapped, foreign, fresh, ChildReady}
@@ -128,15 +127,8 @@ module _ (s : Store) (parent child size : ℕ) where
           pub no_7 : (size % 4096 ≡ 0 → ⊥) → Smallest R 7
           no_7 h = to7 7 (just_found 7 (size % 4096 ≡ 0 → ⊥) above7 h)
 
-          -- what the counts and the judge of fresh pages ask
-          pub may_count : (child < 512) × (parent < 512) × (size / 4096 ≤ 2 ^ 26)
-          may_count = (root_in s child r.sized c, root_in s parent r.sized r.is_root, omega arith)
-
           at_child₀ : RootReady s child
           at_child₀ = record { sized = r.sized; formed = r.formed; is_root = c }
-
-          pub asked : Asked s child 0 (size / 4096 - 0) × (0 ≤ size / 4096)
-          asked = (record { at_root = at_child₀; pages = omega arith }, omega arith)
 
           module _ (y : size % 4096 ≡ 0) where
             pub at_page : (n : ℕ) → Smallest Pages n → Smallest R n

@@ -1,5 +1,5 @@
 -- A turn of the loop that follows a string, a page's part at a time. Assumes nothing.
-use mathlib.Core.Path.{◌≡◌, refl, sym, ap, ap₂, subst, ◌∙◌}
+use mathlib.Core.Path.{◌≡◌, sym, ap, ap₂, subst, ◌∙◌}
 use mathlib.Core.Bool.{Bool, true, false}
 use mathlib.Core.Logic.{◌⊎◌, inl, inr, ⊎_elim, by_cases}
 use Prim.Native.Nat.{ℕ, ◌+◌, ◌-◌, ◌/◌, ◌%◌, ◌^◌, ◌≤◌, ◌<◌, min}
@@ -42,11 +42,8 @@ same_page s r a b e p = record {
 }
 
 module _ (s : Store) (root va max : ℕ) where
-  pub start : Following s root va max 0
-  start = record { needed = inr refl; passed = λ j l. absurd (omega arith) }
-
   module _ (i : ℕ) (g : Following s root va max i) where
-    pub upto : i ≤ max
+    upto : i ≤ max
     upto = ⊎_elim (λ l. omega arith) (λ e. omega arith) g.needed
 
     -- the address of byte i is a number of 64 bits
@@ -81,7 +78,7 @@ module _ (s : Store) (root va max : ℕ) where
           by_cases (dec_lt m i) (λ l. (p' m l).more (z (⊎_elim (λ h. omega arith) (λ h. omega arith) d')))
           (λ l. let e : i ≡ m = omega arith in c (subst (Needs max) e d') k (subst (λ (y : ℕ). PageReason s root (va + y) k) e x)))
 
-      pub ends : (met : Bool) → met ≡ ltb m max → Measured s root va max m met
+      ends : (met : Bool) → met ≡ ltb m max → Measured s root va max m met
       ends met e =
           let n : m ≡ str_length s root va max = str_is s root va max m u (λ j l. (p j l).more) z in
           record { clear = none; count = n; zero = e ∙ ap (λ (x : ℕ). ltb x max) n ∙ sym (zero_met_lem s root va max) }
@@ -97,9 +94,6 @@ module _ (s : Store) (root va max : ℕ) where
 
       there : place_at s root (va + i) + k ≤ length s.bytes
       there = page_room s root f.sized (va + i) k p one
-
-      pub room : from + k ≤ length s.bytes
-      room = subst (λ (x : ℕ). x + k ≤ length s.bytes) (sym ef) there
 
       -- the pages of the bytes up to the last one looked at
       near : (j : ℕ) → i ≤ j → j < i + k ⊎ (j ≡ i) → PageReady s root (va + j)
