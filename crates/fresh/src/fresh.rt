@@ -10,7 +10,7 @@ use refusal::Refusal;
 use store::Store;
 use walk::Bits;
 
-// 14, 16 or 17, or 0, for the pages from first up to end.
+// Why the pages from first up to end may not get fresh frames, which is 14, 16 or 17.
 pub fn judge_fresh(store: &Store, root: usize, first: usize, end: usize) -> Result<(), Refusal>
     requires { Asked (seen store.now) root first (end - first) × (first ≤ end) }
     ensures { Judges
@@ -34,6 +34,7 @@ pub fn judge_fresh(store: &Store, root: usize, first: usize, end: usize) -> Resu
 }
 
 // Slot m and the lowest free frame get each other, with the flags q. No frame below from is free.
+#[tactic(auto, using(store::proofs::Free::lowest_le))]
 fn take_frame(words: &mut [u64], fmarks: &mut [u32], m: usize, q: u64, from: usize) -> usize
     requires { (m < 2 ^ 32) × (q < 1024) × (length fmarks.old ≤ 4096) × (from ≤ lowest fmarks.old) }
     ensures { FrameTaken words.old fmarks.old m q result words.new fmarks.new }
