@@ -1,7 +1,7 @@
 -- What the code of one frame does to words, marks and bytes, as the definitions say it of a store. Assumes nothing.
 use mathlib.Core.Path.{◌≡◌, ap, ◌∙◌}
-use mathlib.Core.List.{List, []}
-use Prim.Native.Nat.{ℕ, ◌+◌, ◌-◌, ◌*◌, ◌^◌, ◌≤◌, ◌<◌}
+use mathlib.Core.List.{List}
+use Prim.Native.Nat.{ℕ, ◌+◌, ◌-◌, ◌*◌, ◌≤◌}
 use native.Mathlib.Omega.{arith}
 use lib.ListN.{length, set, drop, length-drop}
 use lib.Seq.{length-take-le}
@@ -11,14 +11,11 @@ use Rattle.store.specs.Count.{lowest}
 use Rattle.store.specs.Walk.{slot_word, slot}
 use Rattle.enter.specs.Enter.{put_slot, tabled, Becomes}
 use Rattle.fresh.specs.Fill.{pool_entry, framed, filled}
-use Rattle.fresh.specs.Fresh.{fresh_page, FrameFits, FrameTaken, FrameEntered}
+use Rattle.fresh.specs.Fresh.{fresh_page, FrameTaken, FrameEntered}
 
 -- ---- the tables of a page are hung, and then its slot and a frame get each other
 
 module _ (ws ms fs : List ℕ) (r p q : ℕ) (ws₀ ms₀ : List ℕ) (m : ℕ) (h : Becomes ws ms (λ s. tabled s r p) ws₀ ms₀) (e : m ≡ slot (slot_word ws₀) r 2 p) where
-  pub slot_fits : (a : ℕ) → FrameFits ws ms fs r p a → m < 2 ^ 32
-  slot_fits a c = let x : m ≡ slot (slot_word (tabled (store_of ws ms [] []) r p).words) r 2 p = e ∙ ap (λ (s : Store). slot (slot_word s.words) r 2 p) (h [] []) in omega (arith, c.fits)
-
   pub frame_entered : (f : ℕ) (ws' fs' : List ℕ) → FrameTaken ws₀ fs m q f ws' fs' → FrameEntered ws ms fs r p q f ws' ms₀ fs'
   unfolding fresh_page filled
   frame_entered f ws' fs' t = record {

@@ -1,15 +1,11 @@
 -- What each way out of `free` says, and that two answers to one call are the same. Assumes nothing.
-use mathlib.Core.Path.{◌≡◌, refl, sym, ap, ◌∙◌}
+use mathlib.Core.Path.{◌≡◌, sym, ap, ◌∙◌}
 use mathlib.Core.List.{List}
-use Prim.Native.Nat.{ℕ, ◌*◌, ◌≤◌, ◌<◌}
-use native.Mathlib.Omega.{arith}
-use lib.ListN.{length}
-use Rattle.std.specs.Prelude.{Result, Ok, Err}
+use Prim.Native.Nat.{ℕ}
+use Rattle.std.specs.Prelude.{Result, Ok}
 use Rattle.refusal.specs.declared.Refusal.{Refusal}
 use Rattle.store.specs.Store.{Store, store_of}
-use Rattle.store.specs.Outcome.{Smallest}
 use Rattle.store.proofs.Outcomes.{one_outcome}
-use Rattle.store.proofs.Scans.{in_range}
 use Rattle.release.specs.Free.{FreeReason, FreeReady, released, FreeDone, Free}
 use Rattle.release.specs.FreeTree.{Trees, trees, free_tree}
 use Rattle.release.proofs.FreeReasons.{clear}
@@ -20,12 +16,8 @@ module _ (s : Store) (root : ℕ) where
   pub one_free : (a a' : Result ℕ Refusal) (t t' : Store) → Free s root a t → Free s root a' t' → (a ≡ a') × (t ≡ t')
   one_free = one_outcome (FreeReason s root) (FreeDone s root) (λ v v' t t' x y. (x.0 ∙ sym y.0, x.1 ∙ sym y.1)) s
 
-  module _ (f : FreeReady s root) where
-    pub may_free : (root < length s.tmarks) × (length s.words ≡ 512 * length s.tmarks) × (2 ≤ 2)
-    may_free = (in_range s.tmarks root (λ e. omega (arith, f.at_root.is_root)), f.at_root.sized.words, omega arith)
-
-    pub done : (ws ms : List ℕ) (v : ℕ) → trees ws ms v ≡ free_tree 2 root s.words s.tmarks → Free s root (Ok v) (store_of ws ms s.bytes s.fmarks)
-    unfolding released
-    done ws ms v e =
-        let q = e ∙ frees_root s f.at_root.sized f.at_root.formed root f.at_root.is_root in
-        (clear s root f, (ap (λ (x : Trees). x.count) q, ap (λ (x : Trees). store_of x.words x.tmarks s.bytes s.fmarks) q))
+  pub done : FreeReady s root → (ws ms : List ℕ) (v : ℕ) → trees ws ms v ≡ free_tree 2 root s.words s.tmarks → Free s root (Ok v) (store_of ws ms s.bytes s.fmarks)
+  unfolding released
+  done f ws ms v e =
+      let q = e ∙ frees_root s f.at_root.sized f.at_root.formed root f.at_root.is_root in
+      (clear s root f, (ap (λ (x : Trees). x.count) q, ap (λ (x : Trees). store_of x.words x.tmarks s.bytes s.fmarks) q))

@@ -6,8 +6,7 @@ use native.Mathlib.Omega.{arith}
 use lib.Bits.{bit_and}
 use Rattle.store.specs.Store.{Store}
 use Rattle.store.specs.Outcome.{NoReason, Smallest}
-use Rattle.store.proofs.Outcomes.{Just, first_found, then_judged, just_one, then_found}
-use Rattle.store.proofs.Scans.{in_range}
+use Rattle.store.proofs.Outcomes.{Just, first_found, just_one, then_found}
 use Rattle.well_formed.specs.Root.{RootReason, RootReady}
 use Rattle.well_formed.proofs.RootReasons.{root_upto, root_clear}
 use Rattle.walk.specs.Mapped.{Mapped}
@@ -42,10 +41,6 @@ module _ (s : Store) (root : ℕ) where
 
   pub by_root : (n : ℕ) → Smallest (RootReason s root) n → Smallest R n
   by_root = first_found split (λ k. at_root) (λ j k a b. omega (arith, root_upto a, b.0))
-
-  -- what the count of pages asks
-  pub can_count : RootReady s root → (root < 512) × (0 ≤ 2 ^ 26) × (2 ^ 26 ≤ 2 ^ 26) × (0 < 1)
-  can_count r = (omega (arith, in_range s.tmarks root (λ e. omega (arith, r.is_root)), r.sized.tables_to), omega arith, omega arith, omega arith)
 
   -- a root with a mapped page
   pub still_mapped : RootReady s root → Some → Smallest R 18

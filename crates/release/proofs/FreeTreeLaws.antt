@@ -6,7 +6,7 @@ use mathlib.Core.Bool.{Bool, true, false, cond}
 use Prim.Native.Nat.{ℕ, zero, suc, ◌+◌, ◌-◌, ◌*◌, ◌≤◌, ◌<◌}
 use native.Mathlib.Nat.{add-zero, suc-mul, le_trans, le-add_right}
 use native.Mathlib.Numerals.{add-one, sub-one}
-use native.Mathlib.Decide.{dec_le}
+use native.Mathlib.Decide.{dec_le, dec_lt}
 use native.Mathlib.Omega.{arith}
 use borrow.Author.Tests.{lt-ltb, le-ltb}
 use borrow.Rule.Slice.PartMut.{put_mid}
@@ -49,13 +49,16 @@ module _ (f : ℕ → List ℕ → List ℕ → Trees) (x : ℕ) (s : Trees) whe
   unfolding child
   names_none h = simp (lt-ltb _ _ h)
 
-  pub names_past : 0x10_0000 ≤ frame_no x → length s.tmarks ≤ table_of x → child f x s ≡ s
-  unfolding child
-  names_past h g = simp (le-ltb _ _ h, le-ltb _ _ g)
-
   pub names_one : 0x10_0000 ≤ frame_no x → table_of x < length s.tmarks → child f x s ≡ add s (f (table_of x) s.words s.tmarks)
   unfolding child
   names_one h g = simp (le-ltb _ _ h, lt-ltb _ _ g)
+
+  -- no table of the store
+  names_other : ((0x10_0000 ≤ frame_no x) × (table_of x < length s.tmarks) → ⊥) → child f x s ≡ s
+  unfolding child
+  names_other h =
+      by_cases (dec_lt (frame_no x) 0x10_0000) names_none
+      (λ g. let l : length s.tmarks ≤ table_of x = by_cases (dec_lt (table_of x) (length s.tmarks)) (λ k. absurd (h (omega arith, k))) (λ k. omega arith) in simp (le-ltb (frame_no x) 0x10_0000 (omega arith), le-ltb (table_of x) (length s.tmarks) l))
 
 -- ---- how many tables there can be
 
@@ -79,69 +82,59 @@ one_counted : (t : ℕ) (ws ms : List ℕ) → (free_tree 0 t ws ms).count ≤ 1
 unfolding free_tree
 one_counted t ws ms = omega arith
 
-pub free_small : (l : ℕ) → l ≤ 1 → (t : ℕ) (ws ms : List ℕ) → (free_tree l t ws ms).count ≤ 513
+small : (l : ℕ) → l ≤ 1 → (t : ℕ) (ws ms : List ℕ) → (free_tree l t ws ms).count ≤ 513
 unfolding free_tree
-free_small zero h t ws ms = omega arith
-free_small (suc zero) h t ws ms = omega (arith, counted (free_tree 0) 1 one_counted t ws ms 512)
-free_small (suc (suc l)) h t ws ms = absurd (omega arith)
+small zero h t ws ms = omega arith
+small (suc zero) h t ws ms = omega (arith, counted (free_tree 0) 1 one_counted t ws ms 512)
+small (suc (suc l)) h t ws ms = absurd (omega arith)
 
-pub children_small : (l : ℕ) → l ≤ 1 → (t : ℕ) (ws ms : List ℕ) (e : ℕ) → (children (free_tree l) t ws ms e).count ≤ e * 513
-children_small l h t ws ms e = counted (free_tree l) 513 (free_small l h) t ws ms e
+module _ (l : ℕ) (h : l ≤ 1) (t : ℕ) (ws ms : List ℕ) {ws' ms' : List ℕ} {n : ℕ} where
+  pub free_few : trees ws' ms' n ≡ free_tree l t ws ms → n ≤ 513
+  free_few e = omega (arith, ap (λ (s : Trees). s.count) e, small l h t ws ms)
+
+  pub children_few : (e : ℕ) → trees ws' ms' n ≡ children (free_tree l) t ws ms e → n ≤ e * 513
+  children_few e q = omega (arith, ap (λ (s : Trees). s.count) q, counted (free_tree l) 513 (small l h) t ws ms e)
 
 -- ---- a turn of the loop, from what is freed before it to what is freed after it
 
-module _ (f : ℕ → List ℕ → List ℕ → Trees) (t : ℕ) (ws₀ ms₀ : List ℕ) (e : ℕ) (ws ms : List ℕ) (n : ℕ) (inv : trees ws ms n ≡ children f t ws₀ ms₀ e)
-    (frame : ℕ) (ef : frame ≡ frame_no (word ws (512 * t + e))) where
-  abbrev x : ℕ
-  x = word ws (512 * t + e)
-
-  turn : {s : Trees} → child f x (trees ws ms n) ≡ s → s ≡ children f t ws₀ ms₀ (e + 1)
+module _ (f : ℕ → List ℕ → List ℕ → Trees) (t : ℕ) (ws₀ ms₀ : List ℕ) where
+  -- one word
+  turn : (e : ℕ) (ws ms : List ℕ) (n : ℕ) {s : Trees} → trees ws ms n ≡ children f t ws₀ ms₀ e → child f (word ws (512 * t + e)) (trees ws ms n) ≡ s → s ≡ children f t ws₀ ms₀ (e + 1)
   unfolding children
-  turn p =
+  turn e ws ms n inv p =
       sym p ∙ ap (λ (s : Trees). child f (word s.words (512 * t + e)) s) inv
       ∙ sym (ap (λ (k : ℕ). children f t ws₀ ms₀ k) (add-one e))
 
-  pub turn_none : frame < 0x10_0000 → trees ws ms n ≡ children f t ws₀ ms₀ (e + 1)
-  turn_none h = turn (names_none f x (trees ws ms n) (omega arith))
-
-  module _ (h : 0x10_0000 ≤ frame) (c : ℕ) (ec : c ≡ frame - 0x10_0000) where
-    is : table_of x ≡ c
-    is = omega arith
-
-    pub turn_past : length ms ≤ c → trees ws ms n ≡ children f t ws₀ ms₀ (e + 1)
-    turn_past g = turn (names_past f x (trees ws ms n) (omega arith) (omega (arith, is)))
-
-    pub turn_one : c < length ms → (k : ℕ) (ws' ms' : List ℕ) → trees ws' ms' k ≡ f c ws ms → trees ws' ms' (n + k) ≡ children f t ws₀ ms₀ (e + 1)
-    turn_one g k ws' ms' r =
-        turn (names_one f x (trees ws ms n) (omega arith) (omega (arith, is)) ∙ ap (add (trees ws ms n)) (ap (λ (j : ℕ). f j ws ms) is ∙ sym r))
-
--- ---- slots that a scan takes as one
-
-module _ (ws : List ℕ) (w r : ℕ) (c : Run ws (w + 2) r) where
-  -- a word that names a table is taken alone
-  pub alone : 0x10_0000 ≤ frame_no (word ws w) → r ≡ 1
-  alone h = run_one ws (w + 2) r c (omega (arith, word_slot ws w))
-
-  -- several are 0
-  zero_words : 1 < r → (i : ℕ) → i < r → word ws (w + i) ≡ 0
-  zero_words h i l = let e : w + i + 2 ≡ w + 2 + i = omega arith in sym (word_slot ws (w + i)) ∙ ap (slot_word ws) e ∙ c.empty h (w + 2 + i) (omega arith) (omega arith)
-
-  -- no slot past the table
-  pub within_table : (t e : ℕ) → w ≡ 512 * t + e → e < 512 → e + r ≤ 512
-  within_table t e q h = omega (arith, c.within)
-
-module _ (f : ℕ → List ℕ → List ℕ → Trees) (t : ℕ) (ws₀ ms₀ : List ℕ) (e : ℕ) (ws ms : List ℕ) (n : ℕ) (inv : trees ws ms n ≡ children f t ws₀ ms₀ e) where
-  turn_zeros : (r : ℕ) → ((i : ℕ) → i < r → word ws (512 * t + e + i) ≡ 0) → trees ws ms n ≡ children f t ws₀ ms₀ (e + r)
-  turn_zeros zero z = inv ∙ ap (children f t ws₀ ms₀) (sym (add-zero e))
-  turn_zeros (suc r) z =
+  -- r words that are 0
+  turn_zeros : (e : ℕ) (ws ms : List ℕ) (n r : ℕ) → trees ws ms n ≡ children f t ws₀ ms₀ e → ((i : ℕ) → i < r → word ws (512 * t + e + i) ≡ 0) → trees ws ms n ≡ children f t ws₀ ms₀ (e + r)
+  turn_zeros e ws ms n zero inv z = inv ∙ ap (children f t ws₀ ms₀) (sym (add-zero e))
+  turn_zeros e ws ms n (suc r) inv z =
       let x : 512 * t + e + r ≡ 512 * t + (e + r) = omega arith in
       let o : word ws (512 * t + (e + r)) ≡ 0 = ap (word ws) (sym x) ∙ z r (omega arith) in
       let s : e + r + 1 ≡ e + suc r = omega arith in
-      turn_none f t ws₀ ms₀ (e + r) ws ms n (turn_zeros r (λ i l. z i (omega arith))) (frame_no (word ws (512 * t + (e + r)))) refl (omega arith) ∙ ap (children f t ws₀ ms₀) s
+      turn (e + r) ws ms n (turn_zeros e ws ms n r inv (λ i l. z i (omega arith))) (names_none f (word ws (512 * t + (e + r))) (trees ws ms n) (omega arith)) ∙ ap (children f t ws₀ ms₀) s
 
-  -- a turn over slots that name no table
-  pub turn_run : frame_no (word ws (512 * t + e)) < 0x10_0000 → (r : ℕ) → Run ws (512 * t + e + 2) r → trees ws ms n ≡ children f t ws₀ ms₀ (e + r)
-  turn_run h r c =
-      by_cases (dec_le r 1)
-      (λ q. let s : e + 1 ≡ e + r = omega (arith, c.some) in turn_none f t ws₀ ms₀ e ws ms n inv (frame_no (word ws (512 * t + e))) refl h ∙ ap (children f t ws₀ ms₀) s)
-      (λ q. turn_zeros r (zero_words ws (512 * t + e) r c (omega arith)))
+  -- a run that was taken as one
+  module _ (e : ℕ) (ws ms : List ℕ) (n : ℕ) (inv : trees ws ms n ≡ children f t ws₀ ms₀ e) (r : ℕ) (c : Run ws (512 * t + e + 2) r) where
+    abbrev x : ℕ
+    x = word ws (512 * t + e)
+
+    abbrev Names : Type 0
+    Names = (0x10_0000 ≤ frame_no x) × (table_of x < length ms)
+
+    -- several of its words are 0
+    zero_words : 1 < r → (i : ℕ) → i < r → word ws (512 * t + e + i) ≡ 0
+    zero_words h i l = let q : 512 * t + e + i + 2 ≡ 512 * t + e + 2 + i = omega arith in sym (word_slot ws (512 * t + e + i)) ∙ ap (slot_word ws) q ∙ c.empty h (512 * t + e + 2 + i) (omega arith) (omega arith)
+
+    pub turn_run : (Names → ⊥) → trees ws ms n ≡ children f t ws₀ ms₀ (e + r)
+    turn_run h =
+        by_cases (dec_le r 1)
+        (λ q. let s : e + 1 ≡ e + r = omega (arith, c.some) in turn e ws ms n inv (names_other f x (trees ws ms n) h) ∙ ap (children f t ws₀ ms₀) s)
+        (λ q. turn_zeros e ws ms n r inv (zero_words (omega arith)))
+
+    -- a word that names a table is taken alone
+    pub turn_one : Names → (j : ℕ) → j ≡ table_of x → (k : ℕ) (ws' ms' : List ℕ) → trees ws' ms' k ≡ f j ws ms → trees ws' ms' (n + k) ≡ children f t ws₀ ms₀ (e + r)
+    turn_one h j q k ws' ms' p =
+        let one : r ≡ 1 = run_one ws (512 * t + e + 2) r c (omega (arith, word_slot ws (512 * t + e), h.0)) in
+        turn e ws ms n inv (names_one f x (trees ws ms n) h.0 h.1 ∙ ap (add (trees ws ms n)) (ap (λ (i : ℕ). f i ws ms) (sym q) ∙ sym p))
+        ∙ ap (λ (i : ℕ). children f t ws₀ ms₀ (e + i)) (sym one)

@@ -168,5 +168,5 @@ module _ (s : Store) (z : Sized s) (c : WellFormed s) (root : ℕ) (rr : mark s.
 
 -- what a success means
 pub free_freed : (s : Store) (root v : ℕ) (s' : Store) → RootReady s root → Free s root (Ok v) s' → Freed s root v s'
-free_freed s root v s' r u =
+free_freed s root v t r u =
     subst₂ (Freed s root) (sym u.1.0) (sym u.1.1) (freed s r.sized r.formed root r.is_root (λ h. u.0 18 (mapped h)))

@@ -1,7 +1,9 @@
 // The tables of a root are given back, the tables below a table first: judged whole, then done.
 ghost use Rattle.std.specs.Prelude.{◌≡◌, ◌*◌, ◌≤◌, ◌<◌, length, set};
+ghost use Rattle.std.specs.Option.{SomeIff};
 ghost use Rattle.store.specs.Outcome.{Judges};
-ghost use Rattle.store.specs.Store.{store_of, seen};
+ghost use Rattle.store.specs.Store.{frame_no, store_of, seen};
+ghost use Rattle.store.specs.Walk.{table_of};
 ghost use Rattle.release.specs.Free.{FreeReason, FreeReady, Free};
 ghost use Rattle.release.specs.FreeTree.{trees, zeroed, free_tree};
 
@@ -11,7 +13,7 @@ use walk::{Bits, RootPages};
 
 const PAGES: usize = 1 << 26;
 
-// The smallest reason not to free a root, or 0.
+// Why a root may not be freed: the smallest reason.
 fn judge_free(store: &Store, root: u64) -> Result<(), Refusal>
     ensures { Judges
         (FreeReason (seen store.now) root)
@@ -39,6 +41,14 @@ fn wipe_table(words: &mut [u64], tmarks: &mut [u32], t: usize)
     tmarks[t] = 0;
 }
 
+// The table that word x names, if it is one of the first n.
+fn child_of(x: u64, n: usize) -> Option<usize>
+    ensures { SomeIff result ((0x10_0000 ≤ frame_no x) × (table_of x < n)) (table_of x) }
+{
+    let table = ((x / 1024) as usize).checked_sub(0x10_0000)?;
+    (table < n).then_some(table)
+}
+
 // Gives back the tables below table t, and then t, and answers how many. The level falls at each call.
 pub fn free_table(words: &mut [u64], tmarks: &mut [u32], t: usize, level: usize) -> usize
     requires { (t < length tmarks.old) × (length words.old ≡ 512 * length tmarks.old) × (level ≤ 2) }
@@ -50,18 +60,14 @@ pub fn free_table(words: &mut [u64], tmarks: &mut [u32], t: usize, level: usize)
     }
     let mut n = 0;
     let mut e = 0;
+    // Each turn takes a run of entries, whose length only the turn finds: no range or iterator has that step.
     while e < 512 {
         let w = 512 * t + e;
         let run = walk::run_of(words, w + 2);
-        let frame = (words[w] / 1024) as usize;
-        e += run;
-        if frame >= 0x10_0000 {
-            let child = frame - 0x10_0000;
-            if child < tmarks.len() {
-                let k = free_table(words, tmarks, child, level - 1);
-                n += k;
-            }
+        if let Some(child) = child_of(words[w], tmarks.len()) {
+            n += free_table(words, tmarks, child, level - 1);
         }
+        e += run;
     }
     wipe_table(words, tmarks, t);
     n + 1

@@ -1,17 +1,18 @@
 -- `pgt_translate`: its reasons in order, that it answers in one way, and that it answers where the machine translates. Assumes nothing.
-use mathlib.Core.Path.{◌≡◌, refl, sym, ◌∙◌}
+use mathlib.Core.Path.{◌≡◌, refl, sym, ap, ◌∙◌}
 use mathlib.Core.Logic.{◌⊎◌, inl, inr, ⊎_elim, ◌↔◌}
-use mathlib.Core.Bool.{true}
+use mathlib.Core.Bool.{true, false}
 use Prim.Native.Nat.{ℕ, suc, ◌+◌, ◌/◌, ◌%◌, ◌^◌, ◌≤◌, ◌<◌}
 use native.Mathlib.Nat.{le_refl}
 use native.Mathlib.Omega.{arith}
+use borrow.Author.Tests.{eqb-true, eqb-false}
 use Rattle.std.specs.Prelude.{Result, Ok}
 use Rattle.refusal.specs.declared.Refusal.{Refusal}
 use Rattle.address.specs.Field.{bit}
-use Rattle.page_table_entry.specs.Layout.{bit_v, bit_u, frame_of}
+use Rattle.page_table_entry.specs.Layout.{bit_v, bit_u, has, frame_of}
 use Rattle.store.specs.Store.{Store, Sized, mark}
 use Rattle.store.specs.WellFormed.{WellFormed}
-use Rattle.store.specs.Walk.{resolve}
+use Rattle.store.specs.Walk.{slot_word, slot, entry_at, resolve}
 use Rattle.store.specs.Outcome.{Smallest, NoReason}
 use Rattle.store.proofs.Outcomes.{one_outcome}
 use Rattle.well_formed.specs.Root.{RootReason, RootReady}
@@ -52,15 +53,30 @@ module _ (s : Store) (root va : ℕ) where
     pub no_6 : 2 ^ 38 ≤ va → Smallest R 6
     no_6 h = record { applies = too_high h; least = least 6 (λ l. absurd (omega arith)) (λ l. absurd (omega arith)) (λ l. absurd (omega arith)) }
 
-    module _ (v : va < 2 ^ 38) where
-      pub no_11 : (Page → ⊥) → Smallest R 11
-      no_11 h = record { applies = unmapped h; least = least 11 (λ l. v) (λ l. absurd (omega arith)) (λ l. absurd (omega arith)) }
+    pub clear : va < 2 ^ 38 → Page → User → NoReason R
+    clear v p u k = least (suc k) (λ l. v) (λ l. p) (λ l. u) k (le_refl (suc k))
 
-      pub no_12 : Page → (User → ⊥) → Smallest R 12
-      no_12 p h = record { applies = no_user h; least = least 12 (λ l. v) (λ l. p) (λ l. absurd (omega arith)) }
+    -- the word e that was read for the page
+    module _ (v : va < 2 ^ 38) (m e : ℕ) (em : m ≡ slot (slot_word s.words) root 2 (va / 4096)) (ee : e ≡ slot_word s.words m) where
+      is : e ≡ resolve s root (va / 4096)
+      unfolding entry_at
+      is = ee ∙ ap (slot_word s.words) em
 
-      pub clear : Page → User → NoReason R
-      clear p u k = least (suc k) (λ l. v) (λ l. p) (λ l. u) k (le_refl (suc k))
+      set : (k : ℕ) → true ≡ has k e → bit k (resolve s root (va / 4096)) ≡ 1
+      set k h = ap (bit k) (sym is) ∙ eqb-true (bit k e) 1 (sym h)
+
+      unset : (k : ℕ) → false ≡ has k e → bit k (resolve s root (va / 4096)) ≡ 1 → ⊥
+      unset k h q = eqb-false (bit k e) 1 (sym h) (ap (bit k) is ∙ q)
+
+      pub no_11 : false ≡ has bit_v e → Smallest R 11
+      no_11 h = record { applies = unmapped (unset bit_v h); least = least 11 (λ l. v) (λ l. absurd (omega arith)) (λ l. absurd (omega arith)) }
+
+      module _ (p : true ≡ has bit_v e) where
+        pub no_12 : false ≡ has bit_u e → Smallest R 12
+        no_12 h = record { applies = no_user (unset bit_u h); least = least 12 (λ l. v) (λ l. set bit_v p) (λ l. absurd (omega arith)) }
+
+        pub done : true ≡ has bit_u e → (a : ℕ) → a ≡ frame_of e → Translate s root va (Ok a)
+        done u a f = (clear v (set bit_v p) (set bit_u u), (f ∙ ap frame_of is, refl))
 
   -- two answers to one call are the same
   pub one_translate : (a a' : Result ℕ Refusal) → Translate s root va a → Translate s root va a' → a ≡ a'

@@ -24,8 +24,7 @@ pub fn pgt_translate(store: &Store, root: u64, va: VirtualAddress) -> Result<u64
     if !e.is_user() {
         return Err(Refusal::NotUser);
     }
-    let frame = e.as_pagetable();
-    Ok(frame.0)
+    Ok(e.as_pagetable().0)
 }
 
 // Mode 8 in bits 60 to 63, and the frame number of the root's table.
