@@ -17,9 +17,8 @@ ghost use Rattle.store.specs.WellFormed.{WellFormed};
 ghost use Rattle.well_formed.specs.Check.{Check, Judged};
 ghost use Rattle.well_formed.specs.Root.{RootReason, RootReady};
 
-pub use scan::zeros;
-
 use refusal::Refusal;
+pub use scan::zeros;
 use store::Store;
 
 // Whether a store of the right sizes is well formed.
