@@ -12,7 +12,8 @@ const PGMASKLEN: u64 = 9;
 
 const PGMASK: u64 = 0x1FF;
 
-// An address of either kind, which is a number of 64 bits.
+// An address of either kind, which is a number of 64 bits. `new` and `as_usize` are the Rust's names and what C calls; `From` would
+// say the same twice.
 pub trait Address: Copy {
     ghost at: { Self → ℕ };
 
@@ -53,6 +54,7 @@ pub trait Address: Copy {
     }
 }
 
+// Two types of one shape, so that an address of one kind is never taken for the other; what both have stands once, in the trait.
 #[derive(Clone, Copy, PartialEq, Eq, PartialOrd, Ord)]
 pub struct VirtualAddress(pub u64);
 
@@ -84,7 +86,7 @@ impl Address for PhysicalAddress {
 }
 
 impl VirtualAddress {
-    // Whether this address lies above the other.
+    // Whether this address lies above the other. What the derives say, under the names that C calls.
     pub fn compare(self, other: Self) -> bool
         ensures { result ≡ ltb other.0 self.0 }
     {
@@ -97,7 +99,8 @@ impl VirtualAddress {
         self == other
     }
 
-    // The index at a level: bits 12 to 20 at level 0, 21 to 29 at level 1, 30 to 38 at level 2.
+    // The index at a level: bits 12 to 20 at level 0, 21 to 29 at level 1, 30 to 38 at level 2. A level is a number, since C
+    // may ask for any.
     pub fn page_num(self, level: u64) -> Result<u64, Refusal>
         ensures { number_said result ≡ index_at level self.0 }
     {
@@ -107,6 +110,7 @@ impl VirtualAddress {
         Ok((self.0 >> (PGSHIFT + level * PGMASKLEN)) & PGMASK)
     }
 
+    // `add_addr` of another address, under the name that C calls.
     pub fn add(self, other: Self) -> Result<Self, Refusal>
         ensures { virtual_said result ≡ within64 (self.0 + other.0) }
     {

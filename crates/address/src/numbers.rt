@@ -10,6 +10,7 @@ const OFFSET: u64 = PGSIZE - 1;
 
 const LAST: u64 = u64::MAX;
 
+// A sum and a difference that leave 64 bits are refused: the library's two methods, which one function of both would only choose between.
 pub fn sum(a: u64, b: u64) -> Result<u64, Refusal>
     ensures { number_said result ≡ within64 (a + b) }
 {

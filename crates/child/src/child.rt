@@ -12,6 +12,7 @@ use store::Store;
 use unmap::IN_WINDOW;
 use walk::{Bits, RootPages};
 
+// Refuses what document 01 lists for two roots. A root is told by its mark, a number that the caller lends.
 fn judge_child(store: &Store, parent: u64, child: u64, size: u64) -> Result<(), Refusal>
     ensures { Judges
         (ChildReason (seen store.now) parent child size)
@@ -68,7 +69,7 @@ fn copy_frame(bytes: &mut [u8], g: usize, f: usize)
 }
 
 // The first n pages of the parent go to the child: fresh frames with the same flags and bytes. The search for a free frame goes on
-// behind the last one taken.
+// behind the last one taken. Two roots in one call are this call's alone, so they make no type.
 fn copy_pages(
     words: &mut [u64],
     tmarks: &mut [u32],
@@ -92,7 +93,8 @@ fn copy_pages(
     }
 }
 
-// The pages that size bytes take go from the parent to the child: fresh frames with the same flags and bytes.
+// The pages that size bytes take go from the parent to the child: fresh frames with the same flags and bytes. The value is 0, as `Child`
+// says; the slices are C's (docs/DECISIONS.md, 42).
 pub fn uvm_copy(
     words: &mut [u64],
     tmarks: &mut [u32],

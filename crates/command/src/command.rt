@@ -13,7 +13,7 @@ pub enum Command {
     Dump(u64),
 }
 
-// The command of this name with these numbers.
+// The command of this name with these numbers: one match tells both.
 fn command_named(name: &[u8], numbers: &[u64]) -> Option<Command>
     ensures { result ≡ told name.now numbers.now }
 {

@@ -31,7 +31,8 @@ pub fn read_bytes(store: &Store, root: usize, va: u64, dst: &mut [u8])
     }
 }
 
-// The source goes to the bytes from va on.
+// The source goes to the bytes from va on. No twin to join with `read_bytes`: which side is lent for writing differs, and with it what a
+// closure could take; only the bytes are lent for writing (docs/DECISIONS.md, 42).
 pub fn write_bytes(
     words: &[u64],
     tmarks: &[u32],

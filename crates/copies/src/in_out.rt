@@ -7,7 +7,7 @@ use address::VirtualAddress;
 use refusal::Refusal;
 use store::Store;
 
-// The bytes from va on go to the buffer, as many as it is long.
+// The bytes from va on go to the buffer, as many as it is long. The value is 0, as `In` says.
 pub fn copy_in(store: &Store, root: u64, va: VirtualAddress, dst: &mut [u8]) -> Result<u64, Refusal>
     ensures { In (seen store.now) root va.0 dst.old result dst.new }
 {
@@ -16,7 +16,7 @@ pub fn copy_in(store: &Store, root: u64, va: VirtualAddress, dst: &mut [u8]) -> 
     Ok(0)
 }
 
-// The source goes to the bytes from va on.
+// The source goes to the bytes from va on. The value is 0, as `Out` says; only the bytes are lent for writing (docs/DECISIONS.md, 42).
 pub fn copy_out(
     words: &[u64],
     tmarks: &[u32],

@@ -7,7 +7,7 @@ ghost use Rattle.dump.specs.Dump.{Listed, table, entry_rows, Dumped};
 use store::Store;
 use text::Text;
 
-// The table that a pointer entry names.
+// The table that a pointer entry names, as `table_of` says, which has 0 for what lies below the tables: of a well-formed store no entry does.
 fn pointed_table(e: u64) -> usize
     ensures { (result ≡ table_of e) × (result < 2 ^ 54) }
 {
@@ -15,7 +15,8 @@ fn pointed_table(e: u64) -> usize
     frame.saturating_sub(0x10_0000)
 }
 
-// Lists table t of this level, and answers how many entries are listed by then.
+// Lists table t of this level, and answers how many entries are listed by then. The bounds come with the
+// recursion: each call hands on smaller ones.
 #[cycle(list_entry_list_table)]
 fn list_table(words: &[u64], t: usize, level: u64, text: &mut Text<'_>, count: u64) -> u64
     requires t_bound { (t < 2 ^ 54) × (level ≤ 2) }

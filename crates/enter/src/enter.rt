@@ -3,7 +3,7 @@ ghost use Rattle.std.specs.Prelude.{◌≡◌, ◌+◌, ◌*◌, ◌^◌, ◌<�
 ghost use Rattle.store.specs.Store.{Store, store_of};
 ghost use Rattle.enter.specs.Enter.{put_slot, put_run, Becomes, tabled, enter_run, enter_pages, CanEnter, Hangable, RunFits, hang as Enter·hang};
 
-// v goes into slot m; slots 0 and 1 are no words, nor are those past the end.
+// v goes into slot m; slots 0 and 1 are no words, nor are those past the end. The library's `get_mut` would need the same two tests.
 pub fn put_slot(words: &mut [u64], m: usize, v: u64)
     ensures { words.new ≡ put_slot words.old m v }
 {
@@ -16,7 +16,7 @@ pub fn put_slot(words: &mut [u64], m: usize, v: u64)
     }
 }
 
-// Mark m goes to table t, where there is one.
+// Mark m goes to table t, where there is one. No twin of `put_slot`, which starts at slot 2.
 pub fn put_mark(tmarks: &mut [u32], t: usize, m: u32)
     ensures { tmarks.new ≡ set tmarks.old t m }
 {
@@ -25,7 +25,8 @@ pub fn put_mark(tmarks: &mut [u32], t: usize, m: u32)
     }
 }
 
-// Where slot m holds 0, the lowest free table is hung there.
+// Where slot m holds 0, the lowest free table is hung there: its number goes into the word, and the slot's into its mark, since the
+// machine and C read them so. Only words and marks are lent, here and below, so the contract alone says that bytes stay.
 fn hang(words: &mut [u64], tmarks: &mut [u32], m: usize)
     requires { (length tmarks.old ≤ 512) × (m < 2 ^ 32) }
     ensures { Becomes words.old tmarks.old (λ (s : Store). Enter·hang s m) words.new tmarks.new }
@@ -49,7 +50,7 @@ pub fn hang_tables(words: &mut [u64], tmarks: &mut [u32], root: usize, page: usi
     hang(words, tmarks, middle);
 }
 
-// n slots from slot m on get e, e + 1024, ..
+// n slots from slot m on get e, e + 1024, .. No twin of unmapping's `leave_run`, which writes no numbers and gives frames back.
 fn put_run(words: &mut [u64], m: usize, n: usize, e: u64)
     requires { (2 ≤ m) × (m + n ≤ 2 + length words.old) × (e + 1024 * n < 2 ^ 64) }
     ensures { words.new ≡ put_run words.old m n e }
@@ -71,6 +72,7 @@ fn enter_run(words: &mut [u64], tmarks: &mut [u32], root: usize, page: usize, n:
 }
 
 // n pages from first on get the entries e, e + 1024, .., block by block. The frames are lent so that the promise can speak of the whole store.
+// The slices come apart, since only two of them are lent for writing (docs/DECISIONS.md, 42).
 pub fn enter_pages(
     words: &mut [u64],
     tmarks: &mut [u32],

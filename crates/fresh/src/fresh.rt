@@ -28,7 +28,8 @@ pub fn judge_fresh(store: &Store, pages: RootPages) -> Result<(), Refusal>
     Ok(())
 }
 
-// Slot m and the lowest free frame get each other, with the flags q. No frame below from is free.
+// Slot m and the lowest free frame get each other, with the flags q. No frame below from is free. Frames are numbers in the
+// marks and in entries, which the machine and C read; of the slices only those that change are lent.
 #[tactic(auto, using(store::proofs::Free::lowest_le))]
 fn take_frame(words: &mut [u64], fmarks: &mut [u32], m: usize, q: u64, from: usize) -> usize
     requires { (m < 2 ^ 32) × (q < 1024) × (length fmarks.old ≤ 4096) × (from ≤ lowest fmarks.old) }

@@ -9,7 +9,8 @@ use refusal::Refusal;
 use store::Store;
 use walk::RootPages;
 
-// Refuses what `judge_sizes` of shrink refuses, and the new pages where `judge_fresh` does.
+// Refuses what `judge_sizes` of shrink refuses, and the new pages where `judge_fresh` does. No twin of `judge_shrink`, which asks another
+// judge of the pages between the sizes the other way round.
 fn judge_grow(store: &Store, root: u64, old: u64, new: u64) -> Result<(), Refusal>
     ensures { Judges
         (GrowReason (seen store.now) root old new)
@@ -30,7 +31,8 @@ fn judge_grow(store: &Store, root: u64, old: u64, new: u64) -> Result<(), Refusa
     fresh::judge_fresh(store, pages)
 }
 
-// n pages from first on get frames of zeros with the flags 31. The search for a free frame goes on behind the last one taken.
+// n pages from first on get frames of zeros with the flags 31. The search for a free frame goes on behind the last one taken. No twin of
+// child's `copy_pages`, whose frames get the flags and bytes of others.
 fn grow_pages(
     words: &mut [u64],
     tmarks: &mut [u32],
@@ -53,7 +55,7 @@ fn grow_pages(
     }
 }
 
-// The pages that new bytes take and old bytes do not get fresh frames of zeros.
+// The pages that new bytes take and old bytes do not get fresh frames of zeros. The slices are C's (docs/DECISIONS.md, 42).
 pub fn uvm_alloc(
     words: &mut [u64],
     tmarks: &mut [u32],

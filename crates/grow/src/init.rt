@@ -37,7 +37,7 @@ fn write_frame(frame: &mut [u8], src: &[u8])
     frame[n..].fill(0);
 }
 
-// Page 0 gets a fresh frame with the source and then zeros.
+// Page 0 gets a fresh frame with the source and then zeros. The value is 0, as `Init` says; the slices are C's (docs/DECISIONS.md, 42).
 pub fn uvm_init(
     words: &mut [u64],
     tmarks: &mut [u32],

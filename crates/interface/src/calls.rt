@@ -1,4 +1,5 @@
 // The calls on a store, which is four lent slices: an address is a number, and an answer is a reply.
+// The parameters are C's, in the order of document 01's calls; `interface_c` exports each under its name.
 ghost use Rattle.store.specs.Store.{store_of};
 ghost use Rattle.interface.specs.Calls.{SetUpReply, CheckReply, TranslateReply, SatpReply, CreateReply, MapReply, UnmapReply, ClearReply, InitReply, GrowReply, ShrinkReply, InReply, OutReply, StrReply, ChildReply, FreeReply, UvmFreeReply, SharedFreeReply, ProcFreeReply};
 

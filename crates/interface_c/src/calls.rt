@@ -1,4 +1,4 @@
-// The calls on a store, exported.
+// The calls on a store, exported: C needs a name and four slices for each, and the work stands in `interface`.
 ghost use Rattle.store.specs.Store.{store_of};
 ghost use Rattle.interface.specs.Calls.{SetUpReply, CheckReply, TranslateReply, SatpReply, CreateReply, MapReply, UnmapReply, ClearReply, InitReply, GrowReply, ShrinkReply, InReply, OutReply, StrReply, ChildReply, FreeReply, UvmFreeReply, SharedFreeReply, ProcFreeReply};
 

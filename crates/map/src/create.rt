@@ -5,7 +5,8 @@ ghost use Rattle.map.specs.Create.{Create};
 use refusal::Refusal;
 use store::Store;
 
-// Makes the lowest free table a root without pages, and answers its number.
+// Makes the lowest free table a root without pages, and answers its number. Only the marks of tables are
+// lent for writing (docs/DECISIONS.md, 42).
 pub fn uvmcreate(
     words: &[u64],
     tmarks: &mut [u32],

@@ -49,6 +49,8 @@ fn judge_numbers(
     Ok(())
 }
 
+// Refuses what `judge_root` and the numbers do, a page that is mapped and tables that are too few. The numbers are those that C asks with,
+// and come apart, since what they make together is for `judge_numbers` to say.
 pub fn judge_map(
     store: &Store,
     root: u64,

@@ -10,6 +10,7 @@ use store::Store;
 use walk::RootPages;
 
 // Maps the pages that size bytes from va on lie in, to the frames from pa on. Answers how many tables it took.
+// Only some slices are lent for writing (docs/DECISIONS.md, 42), and the numbers are those that C asks with.
 pub fn map(
     words: &mut [u64],
     tmarks: &mut [u32],

@@ -29,6 +29,7 @@ const PAST_FRAMES: u64 = 1 << 56;
 #[derive(Clone, Copy)]
 pub struct PageTableEntry(pub u64);
 
+// Each function here has the Rust's name, which C calls; `has` and `with` do the work on a bit, and `From` would say `new` twice.
 impl PageTableEntry {
     pub fn new(addr: u64) -> Self
         ensures { result.0 ≡ addr }
@@ -141,7 +142,7 @@ impl PageTableEntry {
         Self(0)
     }
 
-    // The entry that names the frame of pa, with the permissions and V; or 8, or 9.
+    // The entry that names the frame of pa, with the permissions and V; or 8, or 9. It is no `as_pte` with more, since 8 comes before 9.
     pub fn write_perm(pa: PhysicalAddress, perm: u64) -> Result<Self, Refusal>
         ensures { Written pa.0 perm (entry_said result) }
     {

@@ -1,5 +1,7 @@
 // The calls made of parts, after `uvm_free`, `proc_free_pagetable` and `free_shared_user_pagetable` of page_table.rs: all parts are
-// judged, each on what the parts before it would leave, and then all are done.
+// judged, each on what the parts before it would leave, and then all are done. The three calls, and their judges, share `judge_rest` and
+// `do_rest`; what is left of each is the order of its parts, which its promise names. Of the slices only some are lent for writing
+// (docs/DECISIONS.md, 42), and `true` and `false` are `freeing`, which is the Rust's.
 ghost use Rattle.std.specs.Prelude.{Ok, ◌^◌, ◌≤◌};
 ghost use Rattle.store.specs.Store.{store_of, seen};
 ghost use Rattle.well_formed.specs.Root.{RootReady};

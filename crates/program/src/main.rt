@@ -13,7 +13,7 @@ use std::io;
 use std::io::Read;
 use text::Text;
 
-// The store, the first failure of a read or a write, and the line so far.
+// The store, the first failure of a read or a write, and the line so far: what `take_byte` to `run` hand on is in one place.
 #[derive(Drop)]
 struct Session<'a> {
     memory: Memory,

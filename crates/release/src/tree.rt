@@ -32,7 +32,7 @@ fn judge_free(store: &Store, root: u64) -> Result<(), Refusal>
     Ok(())
 }
 
-// Table t becomes zero and free.
+// Table t becomes zero and free. Here and below only words and marks are lent, so the contract alone says that bytes stay.
 fn wipe_table(words: &mut [u64], tmarks: &mut [u32], t: usize)
     requires { (t < length tmarks.old) × (length words.old ≡ 512 * length tmarks.old) }
     ensures { (words.new ≡ zeroed words.old t) × (tmarks.new ≡ set tmarks.old t 0) }
@@ -49,7 +49,8 @@ fn child_of(x: u64, n: usize) -> Option<usize>
     (table < n).then_some(table)
 }
 
-// Gives back the tables below table t, and then t, and answers how many. The level falls at each call.
+// Gives back the tables below table t, and then t, and answers how many. The level falls at each call: it is a number,
+// and so is a table, since entries name tables by their numbers.
 pub fn free_table(words: &mut [u64], tmarks: &mut [u32], t: usize, level: usize) -> usize
     requires { (t < length tmarks.old) × (length words.old ≡ 512 * length tmarks.old) × (level ≤ 2) }
     ensures { trees words.new tmarks.new result ≡ free_tree level t words.old tmarks.old }
@@ -73,7 +74,7 @@ pub fn free_table(words: &mut [u64], tmarks: &mut [u32], t: usize, level: usize)
     n + 1
 }
 
-// Gives back every table of a root without pages, and answers how many.
+// Gives back every table of a root without pages, and answers how many. Only some slices are lent for writing (docs/DECISIONS.md, 42).
 pub fn free(
     words: &mut [u64],
     tmarks: &mut [u32],

@@ -8,7 +8,7 @@ use page_table_entry::PageTableEntry;
 use refusal::Refusal;
 use strings::StrRead;
 
-// An answer as C reads it: number 0 and the value, or the number of the refusal and 0.
+// An answer as C reads it: number 0 and the value, or the number of the refusal and 0. C has no `Result`.
 #[repr(C)]
 #[derive(Drop)]
 pub struct Reply {

@@ -19,6 +19,7 @@ pub struct PageRange {
     pub end: u64,
 }
 
+// Both are those of address, under the names of mapping/mod.rs that C calls.
 pub fn page_round_up(addr: u64) -> Result<u64, Refusal>
     ensures { number_said result ≡ within64 (up addr) }
 {
@@ -31,7 +32,8 @@ pub fn page_round_down(addr: u64) -> u64
     address::round_down(addr)
 }
 
-// The pages that size bytes from va cover. Whole pages and the bytes past them are added apart, so that nothing wraps.
+// The pages that size bytes from va cover. Whole pages and the bytes past them are added apart, so that nothing wraps. An address and a size
+// are what C asks with; the range is what they become.
 pub fn page_range(va: VirtualAddress, size: u64) -> PageRange
     ensures { Covers va.0 size result }
 {

@@ -31,6 +31,7 @@ fn with_root<const WORDS: usize, const TABLES: usize>() -> Memory<WORDS, TABLES>
 }
 
 // What growing from old to new answers with 8 tables, and how many pages are then mapped.
+// Each sample here makes one call of its own on a fresh store; what they share is `with_root` and `put_result`.
 pub fn growing(rt: &impl Print, name: &str, old: u64, new: u64) -> io::Result<()> {
     let mut m = with_root::<4096, 8>();
     let grown = grow::uvm_alloc(

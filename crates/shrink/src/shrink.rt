@@ -29,7 +29,8 @@ fn judge_shrink(store: &Store, root: u64, old: u64, new: u64) -> Result<(), Refu
     unmap::judge_leave(store, pages, true)
 }
 
-// The pages that old bytes take and new bytes do not leave the root, and their pool frames are given back.
+// The pages that old bytes take and new bytes do not leave the root, and their pool frames are given back. Only some
+// slices are lent for writing (docs/DECISIONS.md, 42). No twin of `uvm_alloc`, whose work needs all four.
 pub fn uvm_dealloc(
     words: &mut [u64],
     tmarks: &[u32],

@@ -13,7 +13,8 @@ pub use count::{count_free, enough_free};
 pub use marks::{level_of, lowest_free, lowest_from, mark_at, word_at};
 use refusal::Refusal;
 
-// The four slices as a call reads them.
+// The four slices as a call reads them. C lends them apart, each with its length; a call that writes takes them apart too, since C lends
+// it some for reading (docs/DECISIONS.md, 42).
 #[derive(Clone, Copy)]
 pub struct Store<'a> {
     pub words: &'a [u64],
@@ -38,7 +39,7 @@ impl Store<'_> {
     }
 }
 
-// Zeros to all four slices; refused only for their sizes.
+// Zeros to all four slices; refused only for their sizes. The value is 0, as `SetUp` says.
 pub fn set_up(
     words: &mut [u64],
     tmarks: &mut [u32],

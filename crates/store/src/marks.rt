@@ -4,21 +4,23 @@ ghost use Rattle.store.specs.Store.{word, mark};
 ghost use Rattle.store.specs.Level.{level};
 ghost use Rattle.store.specs.Count.{lowest};
 
-// The mark at i, or 0 past the end.
+// The mark at i, or 0 past the end, as `mark` says; every caller takes a missing mark for a free one. `word_at` is no twin: it answers
+// in the width of a word, and a generic of both would be longer than both.
 pub fn mark_at(marks: &[u32], i: usize) -> usize
     ensures { (result ≡ mark marks.now i) × (result < 2 ^ 32) }
 {
     marks.get(i).map_or(0, |m| *m as usize)
 }
 
-// Word w, or 0 past the end.
+// Word w, or 0 past the end, as `word` says: a missing word is one that holds nothing.
 pub fn word_at(words: &[u64], w: usize) -> u64
     ensures { result ≡ word words.now w }
 {
     words.get(w).copied().unwrap_or(0)
 }
 
-// The level of table t by the marks, 3 for none.
+// The level of table t by the marks, 3 for none, as `level` says. A mark is a number that the caller lends, and a table is named by its
+// number in entries and marks, which the machine and C read.
 #[tactic(auto, unfolding(crate::specs::Level::level, crate::specs::Level::climb))]
 pub fn level_of(tmarks: &[u32], t: usize) -> usize
     ensures { result ≡ level tmarks.now t }
@@ -37,7 +39,8 @@ pub fn level_of(tmarks: &[u32], t: usize) -> usize
     }
 }
 
-// The lowest table or frame whose mark is 0, or their number where none is.
+// The lowest table or frame whose mark is 0, or their number where none is, as `lowest` says: so both ends of a search are
+// numbers of the same kind. The marks are in no order, so no search can halve them.
 pub fn lowest_free(marks: &[u32]) -> usize
     ensures { result ≡ lowest marks.now }
 {

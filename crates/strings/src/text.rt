@@ -37,7 +37,7 @@ fn zero_in(part: &[u8]) -> usize
         .unwrap_or(part.len())
 }
 
-// The same by long steps, then by short ones, and at last byte by byte.
+// The same by long steps, then by short ones, and at last byte by byte. The length stands for none, as `lowest` says: the steps add up.
 #[tactic(auto, using(store::proofs::Free::lowest_behind, store::proofs::Free::lowest_le))]
 fn first_zero(part: &[u8]) -> usize
     ensures { result ≡ lowest part.now }

@@ -1,4 +1,5 @@
 // Text goes into a lent slice: bytes, numbers in decimal, the lines of the program. What finds no room is left out.
+// Each function here says in a definition what it writes, which `write!` would leave to be told from its format.
 ghost use Rattle.std.specs.Prelude.{◌≡◌, ◌<◌, ◌≤◌, [], ◌∷◌, length};
 
 use refusal::Refusal;

@@ -4,6 +4,7 @@
 use walk::{Bits, RootPages};
 
 // The tables that the pages from first up to end of a root lack, or 0 where one of them is mapped or there is no such range.
+// It is called from C, so the range comes as numbers and 0 stands for no answer.
 #[unsafe(no_mangle)]
 pub extern "C" fn ronakvesh_timed_range(
     words: &[u64],

@@ -27,6 +27,7 @@ const V_ALONE: Bits = Bits {
 };
 
 // Whether, without freeing, one of these pages has a pool frame.
+// `freeing` is C's flag and document 01's word: it picks no function, here or below, but says whether a pool frame is a reason.
 fn meets_pool(store: &Store, pages: RootPages, freeing: bool) -> bool
     requires { RootReady (seen store.now) pages.root }
     ensures { Says result

@@ -3,7 +3,7 @@ ghost use Rattle.std.specs.Prelude.{◌≡◌, ◌+◌, ◌<◌, ◌≤◌, leng
 ghost use Rattle.store.specs.Store.{Store, store_of};
 ghost use Rattle.unmap.specs.Leave.{given_back, leave_run, leave_pages, FramesBecome, CanLeave};
 
-// Entry e goes: the pool frame that it names, if it names one, is free again.
+// Entry e goes: the pool frame that it names, if it names one, is free again. A frame is a number, since entries name it so.
 fn give_back(fmarks: &mut [u32], e: u64)
     ensures { fmarks.new ≡ given_back fmarks.old e }
 {
@@ -12,7 +12,7 @@ fn give_back(fmarks: &mut [u32], e: u64)
     }
 }
 
-// The words of n slots from slot m on become 0; with freeing, their pool frames are given back.
+// The words of n slots from slot m on become 0; with freeing, which is C's flag, their pool frames are given back.
 fn leave_run(words: &mut [u64], fmarks: &mut [u32], m: usize, n: usize, freeing: bool)
     requires { (2 ≤ m) × (m + n ≤ 2 + length words.old) }
     ensures { FramesBecome words.old fmarks.old (λ (s : Store). leave_run s m n freeing) words.new fmarks.new }
@@ -27,6 +27,7 @@ fn leave_run(words: &mut [u64], fmarks: &mut [u32], m: usize, n: usize, freeing:
 }
 
 // n pages from first on leave the root, block by block. Marks of tables and frames' bytes are lent so that the promise can speak of the whole store.
+// The slices come apart, since only two of them are lent for writing (docs/DECISIONS.md, 42).
 pub fn leave_pages(
     words: &mut [u64],
     tmarks: &[u32],

@@ -1,4 +1,5 @@
-// The calls themselves: judged whole, then done.
+// The calls themselves: judged whole, then done. Each takes the slices apart, since only some are lent for writing (docs/DECISIONS.md, 42),
+// and its value is 0, as `Unmap` and `Clear` say.
 ghost use Rattle.store.specs.Store.{store_of};
 ghost use Rattle.unmap.specs.Unmap.{Unmap};
 ghost use Rattle.unmap.specs.Clear.{Clear};

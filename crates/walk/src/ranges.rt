@@ -10,7 +10,7 @@ use super::root_pages::RootPages;
 use super::runs::run_of;
 use super::steps::{slot_in, slot_word};
 
-// How many words have these bits.
+// How many words have these bits. They are a mask and a value, and not a closure: promises of judges speak of both (`PagesAlike`).
 fn count_part(words: &[u64], bits: Bits) -> usize
     ensures { result ≡ count_by (λ x. bit_and x bits.mask == bits.value) words.now }
 {
@@ -48,6 +48,8 @@ fn count_block(words: &[u64], e: u64, first: usize, end: usize, bits: Bits) -> u
 }
 
 // How many pages from first up to end of one group do, where top is the root's entry of it.
+// Its loop and that of `count_pages` are no twins to join: they go over other steps and add other counts, and a closure for each would be
+// longer than both.
 fn count_group(words: &[u64], top: u64, first: usize, end: usize, bits: Bits) -> usize
     requires { (first ≤ end) × (end ≤ 2 ^ 26) }
     ensures { Over (alike bits.mask bits.value (page_under words.now top)) first end result }

@@ -1,7 +1,8 @@
 // Empty slots, 64 at a time, so that a scan of a table steps over them.
 ghost use Rattle.walk.specs.Runs.{Run};
 
-// How many slots from slot m on a scan can take as one: 64 empty ones that start at a multiple of 64 words, else 1.
+// How many slots from slot m on a scan can take as one: 64 empty ones that start at a multiple of 64 words, else 1. Slots 0
+// and 1 are no words.
 pub fn run_of(words: &[u64], m: usize) -> usize
     ensures { Run words.now m result }
 {

@@ -2,7 +2,7 @@
 ghost use Rattle.std.specs.Prelude.{◌≡◌, ◌<◌, ◌^◌};
 ghost use Rattle.store.specs.Walk.{slot_word, slot_in, slot};
 
-// The word in slot m, or 0 where there is none.
+// The word in slot m, or 0 where there is none, as `slot_word` of store's Walk says: an empty slot and none are the same to a walk.
 pub fn slot_word(words: &[u64], m: usize) -> u64
     ensures { result ≡ slot_word words.now m }
 {
@@ -12,7 +12,8 @@ pub fn slot_word(words: &[u64], m: usize) -> u64
     store::word_at(words, m - 2)
 }
 
-// The slot of entry i of the table that entry e names, or 0 where e is 0.
+// The slot of entry i of the table that entry e names, or 0 where e is 0. Slot 0 is none, as `slot_in` says: a walk goes on
+// from it and finds nothing, without a branch. Tables are numbers here, since entries name them so.
 pub fn slot_in(e: u64, i: usize) -> usize
     requires { i < 512 }
     ensures { result ≡ slot_in e i }

@@ -6,6 +6,7 @@ ghost use Rattle.well_formed.specs.Scan.{FrameOk};
 // The number of pool frame 0.
 const POOL: u64 = 0x11_0000;
 
+// A mark is 0, or names a word: so it stands in what the caller lends.
 fn frame_ok(words: &[u64], tmarks: &[u32], fmarks: &[u32], f: usize) -> bool
     requires { f < length fmarks.now }
     ensures { Says result (FrameOk words.now tmarks.now fmarks.now f) }
@@ -20,6 +21,7 @@ fn frame_ok(words: &[u64], tmarks: &[u32], fmarks: &[u32], f: usize) -> bool
     store::word_at(words, m - 2) / 1024 == POOL + f as u64
 }
 
+// One line, as `tables_ok` is for tables; a function for both would need two closures and say no more.
 pub fn frames_ok(words: &[u64], tmarks: &[u32], fmarks: &[u32]) -> bool
     ensures { Says result ((f : ℕ) → f < length fmarks.now → FrameOk words.now tmarks.now fmarks.now f) }
 {

@@ -24,7 +24,8 @@ fn leaves_few(words: &[u64]) -> Option<usize>
     Some(scan::count_held(words))
 }
 
-// 64 words at a time, as arrays, so that the loops know their number: a shorter loop is unrolled on x86-64 and not vectorised.
+// 64 words at a time, as arrays, so that the loops know their number: a shorter loop is unrolled on x86-64 and not vectorised. `words_ok` adds
+// up in the same way over tables, which are no chunks to it: it needs their numbers.
 pub fn leaves(words: &[u64]) -> Option<usize>
     requires { length words.now % 64 ≡ 0 }
     ensures { Finds (Shapes words.now 0 (length words.now)) (windowed words.now) 0 (length words.now) result }

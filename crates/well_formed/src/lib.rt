@@ -60,7 +60,8 @@ pub fn judge_root(store: &Store, root: u64) -> Result<(), Refusal>
     Ok(())
 }
 
-// Says 1 for a well-formed store and 0 for any other; refused only for its sizes.
+// Says 1 for a well-formed store and 0 for any other; refused only for its sizes. The value is a number since C reads it, as
+// `Check` says; `judge_store` refuses instead.
 pub fn check(store: &Store) -> Result<u64, Refusal>
     ensures { Check (seen store.now) result }
 {

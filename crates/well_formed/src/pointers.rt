@@ -18,7 +18,7 @@ pub fn pointed_table(x: u64) -> Option<usize>
     (d % 1024 == 0).then_some((d / 1024) as usize)
 }
 
-// Whether word w is 0, or points to a table whose mark names w.
+// Whether word w is 0, or points to a table whose mark names w. Tables are numbers, since words and marks name them so.
 fn points_ok(words: &[u64], tmarks: &[u32], w: usize) -> bool
     requires { w < length words.now }
     ensures { Says result ((word words.now w ≡ 0) ⊎ Points words.now tmarks.now w) }

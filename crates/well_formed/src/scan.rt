@@ -4,7 +4,7 @@ ghost use Rattle.store.specs.Says.{Says};
 ghost use Rattle.store.specs.Store.{word};
 ghost use Rattle.well_formed.specs.Scan.{Each, Zeros, OrOf, FlagOf, FlagsOf, Over, windowed};
 
-// The or of the words.
+// The or of the words. A `for` and not `fold`, like the other loops here: each is one line, and what it adds up differs.
 pub fn any(words: &[u64]) -> u64
     ensures { OrOf words.now 0 (length words.now) result }
 {

@@ -4,7 +4,7 @@ ghost use Rattle.well_formed.specs.Scan.{WordsOk, Finds, leaf_windowed};
 
 use super::{leaves, pointers, scan};
 
-// The words of table t.
+// The words of table t. The level is that of `level_of`, a number up to 3.
 fn table_words_ok(words: &[u64], tmarks: &[u32], t: usize) -> Option<usize>
     requires { 512 * t + 512 ≤ length words.now }
     ensures { Finds (WordsOk words.now tmarks.now (512 * t) (512 * t + 512)) (leaf_windowed words.now tmarks.now) (512 * t) (512 * t + 512) result }
