@@ -10,7 +10,7 @@ use address::VirtualAddress;
 use refusal::Refusal;
 use store::Store;
 
-// Whether no byte is zero, by their least: `all` has a branch for each byte, and took 5 to 24 times as long over 64 to 4,096 bytes.
+// Whether no byte is zero, by their least: `all` has a branch for each byte, and took 2 to 24 times as long over 64 to 4,096 bytes.
 fn no_zero(part: &[u8]) -> bool
     ensures { result ≡ (lowest part.now == length part.now) }
 {
