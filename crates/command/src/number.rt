@@ -2,7 +2,8 @@
 ghost use Rattle.std.specs.Prelude.{◌≡◌};
 ghost use Rattle.command.specs.Command.{parsed_of};
 
-// The number that the digits of s denote, which `str::parse` would also read with a sign: none where s is empty or has another byte, or where the number is 2^64 or more.
+// The number that the digits of s denote: none where s is empty or has another byte, or where the number is 2^64 or more. `str::parse` would
+// read a plus sign too.
 pub fn read_number(s: &[u8]) -> Option<u64>
     ensures { result ≡ parsed_of s.now }
 {

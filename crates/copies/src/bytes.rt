@@ -15,7 +15,7 @@ pub fn place(words: &[u64], root: usize, a: u64) -> usize
     4096 * ((e / 1024) as usize - 0x11_0000) + (a % 4096) as usize
 }
 
-// The bytes from va on go to the buffer.
+// The bytes from va on go to the buffer. Root and address are those that were judged together, by `judge_copy`.
 pub fn read_bytes(store: &Store, root: usize, va: u64, dst: &mut [u8])
     requires { CopyReady (seen store.now) root va (length dst.old) }
     ensures { dst.new ≡ bytes_at (seen store.now) root va (length dst.old) }

@@ -1,4 +1,5 @@
-// Bytes from a process to the kernel and back, after `copy_in` and `copy_out` of page_table.rs: judged whole, then done.
+// Bytes from a process to the kernel and back, after `copy_in` and `copy_out` of page_table.rs: judged whole, then done. They share their
+// judge; a root and an address are C's two numbers, which are judged together and then read apart.
 ghost use Rattle.store.specs.Store.{store_of, seen};
 ghost use Rattle.copies.specs.InOut.{In, Out};
 

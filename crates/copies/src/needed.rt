@@ -53,6 +53,7 @@ fn pages_end(va: u64, n: u64) -> usize
 }
 
 // Refuses n bytes from va on by the smallest refusal that applies.
+// The numbers are those that C asks with.
 pub fn judge_copy(store: &Store, root: u64, va: u64, n: usize) -> Result<(), Refusal>
     ensures { Judges
         (CopyReason (seen store.now) root va n)

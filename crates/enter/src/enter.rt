@@ -3,7 +3,8 @@ ghost use Rattle.std.specs.Prelude.{◌≡◌, ◌+◌, ◌*◌, ◌^◌, ◌<�
 ghost use Rattle.store.specs.Store.{Store, store_of};
 ghost use Rattle.enter.specs.Enter.{put_slot, put_run, Becomes, tabled, enter_run, enter_pages, CanEnter, Hangable, RunFits, hang as Enter·hang};
 
-// v goes into slot m; slots 0 and 1 are no words, nor are those past the end. The library's `get_mut` would need the same two tests.
+// v goes into slot m; slots 0 and 1 are no words, nor are those past the end. `get_mut` would save no line, here or
+// below. A slot is a number, as marks and walks have it, and means nothing without its words.
 pub fn put_slot(words: &mut [u64], m: usize, v: u64)
     ensures { words.new ≡ put_slot words.old m v }
 {

@@ -18,6 +18,7 @@ const WINDOW: u64 = 0x10_0000;
 const WINDOW_END: u64 = 0x12_0000;
 
 // Why the numbers alone are refused, which is 6, 8, 9 or 10. Where no page is asked for there is no frame either.
+// Two addresses, a size and permissions are what C asks with, and come together here and in the two calls of it.
 fn judge_numbers(
     va: VirtualAddress,
     pa: PhysicalAddress,

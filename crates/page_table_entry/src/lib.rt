@@ -142,7 +142,7 @@ impl PageTableEntry {
         Self(0)
     }
 
-    // The entry that names the frame of pa, with the permissions and V; or 8, or 9. It is no `as_pte` with more, since 8 comes before 9.
+    // The entry that names the frame of pa, with the permissions and V; or 8, or 9.
     pub fn write_perm(pa: PhysicalAddress, perm: u64) -> Result<Self, Refusal>
         ensures { Written pa.0 perm (entry_said result) }
     {

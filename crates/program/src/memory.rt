@@ -88,7 +88,7 @@ impl Memory {
         }
     }
 
-    // Answers how many bytes of out are the text for the line.
+    // Answers how many bytes of out are the text for the line: what is printed is that prefix, of which the promise speaks.
     pub fn answer_line(&mut self, line: &[u8], out: &mut [u8; ROOM]) -> usize
         ensures prefix_len { IsPrefixLen result out.new }
         ensures printed { Printed (store_in self.old) line.now (take result out.new) (store_in self.new) }

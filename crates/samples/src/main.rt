@@ -1,4 +1,4 @@
-// The samples of document 01, a line each: what the code says on them.
+// The samples of document 01, a line each: what the code says on them. The numbers are those of the document.
 #![tactic(auto)]
 
 mod calls;

@@ -47,7 +47,7 @@ fn first_zero(part: &[u8]) -> usize
     short + zero_in(&part[short..])
 }
 
-// Follows at most max bytes from va on, page by page, up to the first zero.
+// Follows at most max bytes from va on, page by page, up to the first zero. Root and address are C's two numbers.
 fn measure(store: &Store, root: usize, va: u64, max: usize) -> Result<StrRead, Refusal>
     requires { RootReady (seen store.now) root }
     ensures { Measures (seen store.now) root va max result }

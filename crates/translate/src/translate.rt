@@ -8,7 +8,7 @@ use page_table_entry::PageTableEntry;
 use refusal::Refusal;
 use store::Store;
 
-// The address of the frame that the page of va resolves to, which must have U.
+// The address of the frame that the page of va resolves to, which must have U. Root and address are C's two numbers.
 pub fn pgt_translate(store: &Store, root: u64, va: VirtualAddress) -> Result<u64, Refusal>
     ensures { Translate (seen store.now) root va.0 result }
 {

@@ -56,7 +56,7 @@ pub fn judge_leave(store: &Store, pages: RootPages, freeing: bool) -> Result<(),
     Ok(())
 }
 
-// Whether one of n pages from first on lies at or above 2^38.
+// Whether one of n pages from first on lies at or above 2^38, so no `RootPages` can be made of them yet.
 fn too_high(first: u64, n: u64) -> bool
     requires { first < 2 ^ 52 }
     ensures { Says result (TooHigh first n) }
@@ -65,6 +65,7 @@ fn too_high(first: u64, n: u64) -> bool
 }
 
 // Refuses what `judge_root` refuses, pages that lie too high, an address that is not aligned, and the pages where `judge_leave` does.
+// The numbers are those that C asks with.
 pub fn judge_unmap(
     store: &Store,
     root: u64,

@@ -26,8 +26,9 @@ fn leave_run(words: &mut [u64], fmarks: &mut [u32], m: usize, n: usize, freeing:
     }
 }
 
-// n pages from first on leave the root, block by block. Marks of tables and frames' bytes are lent so that the promise can speak of the whole store.
-// The slices come apart, since only two of them are lent for writing (docs/DECISIONS.md, 42).
+// n pages from first on leave the root, block by block. Marks of tables and frames' bytes are lent so that the promise can speak of the
+// whole store. The slices come apart, since only two of them are lent for writing (docs/DECISIONS.md, 42). A step of `enter_pages` writes
+// other slices, so one loop for both would take a closure and have to promise what that does to the whole store.
 pub fn leave_pages(
     words: &mut [u64],
     tmarks: &[u32],

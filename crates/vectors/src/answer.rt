@@ -38,7 +38,7 @@ fn read(call: Reading, numbers: [u64; 5], memory: &mut Memory) -> Reply {
     }
 }
 
-// The first of the lent bytes, or all where there are no more.
+// The first of the lent bytes, or all where there are no more, for which slices have no method.
 fn first(lent: &[u8], length: u64) -> &[u8] {
     &lent[..(length as usize).min(lent.len())]
 }

@@ -7,6 +7,7 @@ use super::root_pages::RootPages;
 use super::steps::{slot_in, slot_word};
 
 // How many of the blocks from first up to end have no table, where top is the root's entry of their group.
+// These are ends of blocks, here and below, and not of pages, so they make no `RootPages`.
 fn blocks_missing(words: &[u64], top: u64, first: usize, end: usize) -> usize
     requires { first ≤ end }
     ensures { result ≡ zeros (entry_under words.now top) (end - first) first }

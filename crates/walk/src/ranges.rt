@@ -34,6 +34,7 @@ fn count_bits(words: &[u64], bits: Bits) -> usize
 }
 
 // How many pages from first up to end of one block do, where e is its entry; of several blocks, where it is 0.
+// The ends are a part of a `RootPages`, by an entry and not by a root.
 fn count_block(words: &[u64], e: u64, first: usize, end: usize, bits: Bits) -> usize
     requires { (first ≤ end) × (0x4000_0000 ≤ e → end ≤ 512 * (first / 512) + 512) }
     ensures { Over (alike bits.mask bits.value (entry_under words.now e)) first end result }
