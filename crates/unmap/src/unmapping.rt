@@ -48,7 +48,8 @@ pub fn uvm_unmap(
     Ok(0)
 }
 
-// Takes U away from the page of va. A page that is not mapped stays so, where its level-0 table is there.
+// Takes U away from the page of va. A page that is not mapped stays so, where its level-0 table is there;
+// a slot below 2 is none, as `slot_in` says.
 pub fn uvm_clear(
     words: &mut [u64],
     tmarks: &[u32],

@@ -12,7 +12,7 @@ const NONE: u64 = 1;
 pub struct Row {
     pub call: Call,
     pub numbers: [u64; 5],
-    // Whether the Rust is listed to answer otherwise.
+    // Whether the Rust is listed to answer otherwise; the reply is the wanted one in either case.
     pub is_listed: bool,
     reply: Reply,
     digest: u64,

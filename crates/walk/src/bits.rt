@@ -1,7 +1,8 @@
 // What a word must have to be counted.
 ghost use Rattle.std.specs.Prelude.{◌≡◌, ◌==◌, ◌<◌, bit_and};
 
-// The bits of a word under the mask are the value, which is not 0.
+// The bits of a word under the mask are the value, which is not 0. No closure: the promises of judges speak of mask and value, and of a
+// closure each call would have to prove what it tells.
 #[derive(Clone, Copy)]
 pub struct Bits {
     pub mask: u64,

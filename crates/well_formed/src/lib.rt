@@ -49,7 +49,7 @@ pub fn judge_store(store: &Store) -> Result<(), Refusal>
     Ok(())
 }
 
-// Refuses such a store, and a root named in it that is none.
+// Refuses such a store, and a root named in it that is none: a root's mark is 1, in the marks that the caller lends.
 pub fn judge_root(store: &Store, root: u64) -> Result<(), Refusal>
     ensures { Judges (RootReason (seen store.now) root) (RootReady (seen store.now) root) result }
 {

@@ -6,7 +6,7 @@ ghost use Rattle.well_formed.specs.Scan.{TableOk};
 use super::pointers;
 
 // Only words and marks are lent here and below, and not the whole store, so that the contract alone says that bytes play no part. Its twin
-// `frame_ok` asks other things of another kind of mark.
+// `frame_ok` asks other things of another kind of mark. A mark below 2 names no word.
 fn table_ok(words: &[u64], tmarks: &[u32], t: usize) -> bool
     ensures { Says result (TableOk words.now tmarks.now t) }
 {
