@@ -28,6 +28,7 @@ pub trait Address: Copy {
         self.as_usize() % PGSIZE == 0
     }
 
+    #[tactic(auto, unfolding(crate::specs::Answer::said))]
     fn pg_round_up(self) -> Result<Self, Refusal>
         ensures { said at result ≡ within64 (up (at self)) }
     {
@@ -46,6 +47,7 @@ pub trait Address: Copy {
         self.add_addr(PGSIZE)
     }
 
+    #[tactic(auto, unfolding(crate::specs::Answer::said))]
     fn add_addr(self, addr: u64) -> Result<Self, Refusal>
         ensures { said at result ≡ within64 (at self + addr) }
     {
@@ -98,6 +100,7 @@ impl VirtualAddress {
     }
 
     // The index at a level: bits 12 to 20 at level 0, 21 to 29 at level 1, 30 to 38 at level 2.
+    #[tactic(auto, using(crate::proofs::Answers::indexed, crate::proofs::Answers::too_high, crate::proofs::Pages::index_mask), unfolding(crate::specs::Answer::said))]
     pub fn page_num(self, level: u64) -> Result<u64, Refusal>
         ensures { number_said result ≡ index_at level self.0 }
     {
@@ -113,6 +116,7 @@ impl VirtualAddress {
         self.add_addr(other.0)
     }
 
+    #[tactic(auto, unfolding(crate::specs::Answer::said))]
     pub fn sub(self, other: Self) -> Result<Self, Refusal>
         ensures { virtual_said result ≡ at_least0 self.0 other.0 }
     {

@@ -22,7 +22,12 @@ pub fn ronakvesh_set_up(
 pub fn ronakvesh_check(words: &[u64], tmarks: &[u32], bytes: &[u8], fmarks: &[u32]) -> Reply
     ensures { CheckReply (store_of words.now tmarks.now bytes.now fmarks.now) result }
 {
-    let store = Store { words, tmarks, bytes, fmarks };
+    let store = Store {
+        words,
+        tmarks,
+        bytes,
+        fmarks,
+    };
     Reply::from(well_formed::check(&store))
 }
 
@@ -36,7 +41,12 @@ pub fn ronakvesh_pgt_translate(
 ) -> Reply
     ensures { TranslateReply (store_of words.now tmarks.now bytes.now fmarks.now) root va result }
 {
-    let store = Store { words, tmarks, bytes, fmarks };
+    let store = Store {
+        words,
+        tmarks,
+        bytes,
+        fmarks,
+    };
     Reply::from(translate::pgt_translate(&store, root, VirtualAddress(va)))
 }
 
@@ -49,7 +59,12 @@ pub fn ronakvesh_as_satp(
 ) -> Reply
     ensures { SatpReply (store_of words.now tmarks.now bytes.now fmarks.now) root result }
 {
-    let store = Store { words, tmarks, bytes, fmarks };
+    let store = Store {
+        words,
+        tmarks,
+        bytes,
+        fmarks,
+    };
     Reply::from(translate::as_satp(&store, root))
 }
 
@@ -188,7 +203,12 @@ pub fn ronakvesh_copy_in(
 ) -> Reply
     ensures { InReply (store_of words.now tmarks.now bytes.now fmarks.now) root va dst.old result dst.new }
 {
-    let store = Store { words, tmarks, bytes, fmarks };
+    let store = Store {
+        words,
+        tmarks,
+        bytes,
+        fmarks,
+    };
     Reply::from(copies::copy_in(&store, root, VirtualAddress(va), dst))
 }
 
@@ -208,6 +228,7 @@ pub fn ronakvesh_copy_out(
     Reply::from(copies::copy_out(words, tmarks, bytes, fmarks, root, VirtualAddress(va), src))
 }
 
+#[tactic(auto, using(replies::proofs::StrReplies::str_reply))]
 pub fn ronakvesh_copy_in_str(
     words: &[u64],
     tmarks: &[u32],
@@ -219,7 +240,12 @@ pub fn ronakvesh_copy_in_str(
 ) -> Reply
     ensures { StrReply (store_of words.now tmarks.now bytes.now fmarks.now) root va dst.old result dst.new }
 {
-    let store = Store { words, tmarks, bytes, fmarks };
+    let store = Store {
+        words,
+        tmarks,
+        bytes,
+        fmarks,
+    };
     Reply::from(strings::copy_in_str(&store, root, VirtualAddress(va), dst))
 }
 
