@@ -1,13 +1,15 @@
 -- Which case of a definition by tests a fact picks, and what a caller learns of an answer that it took apart. Assumes nothing.
-use mathlib.Core.Path.{◌≡◌, ap, ◌∙◌}
-use Prim.Native.Nat.{ℕ, ◌-◌, ◌^◌, ◌<◌, ◌≤◌}
+use mathlib.Core.Path.{◌≡◌, sym, ap, ◌∙◌}
+use mathlib.Core.Logic.{by_cases}
+use Prim.Native.Nat.{ℕ, ◌+◌, ◌-◌, ◌^◌, ◌<◌, ◌≤◌}
+use native.Mathlib.Decide.{dec_lt}
 use native.Mathlib.Omega.{arith}
 use lib.ListN.{get_or, length}
 use borrow.Author.Tests.{lt-ltb, le-ltb, le-leb, lt-leb}
 use Rattle.std.specs.Prelude.{Option, Some, None}
 use Rattle.std.specs.Option.{SomeIff, ok_or}
 use Rattle.refusal.specs.declared.Refusal.TheVariants.{TooHigh}
-use Rattle.address.specs.Page.{index}
+use Rattle.address.specs.Page.{down, up, index}
 use Rattle.address.specs.Answer.{Said, answered, refused, said, within64, at_least0, index_at}
 
 pub held : {v : ℕ} → v < 2 ^ 64 → answered v ≡ within64 v
@@ -50,3 +52,13 @@ pub lessened : (a b : ℕ) (o : Option ℕ) → SomeIff o (b ≤ a) (a - b) → 
 unfolding said
 lessened a b None h = below (omega (arith, h))
 lessened a b (Some x) h = ap answered h.1 ∙ reached h.0
+
+-- a sum that is then rounded down, and one that 64 bits do not hold
+pub then_down : {v : ℕ} (a : ℕ) → answered v ≡ within64 (a + 4095) → answered (down v) ≡ within64 (up a)
+then_down {v} a e =
+    by_cases (dec_lt (a + 4095) (2 ^ 64)) (λ h. let q : v ≡ a + 4095 = value (e ∙ sym (held h)) in ap (λ (x : ℕ). answered (down x)) q ∙ held (omega arith))
+    (λ h. absurd (clash (outside {v = a + 4095} (omega arith) ∙ sym e)))
+
+pub then_outside : {n : ℕ} (a : ℕ) → refused n ≡ within64 (a + 4095) → refused n ≡ within64 (up a)
+then_outside {n} a e =
+    by_cases (dec_lt (a + 4095) (2 ^ 64)) (λ h. absurd (clash (e ∙ sym (held h)))) (λ h. e ∙ sym (outside {v = a + 4095} (omega arith)) ∙ outside {v = up a} (omega arith))

@@ -29,6 +29,7 @@ pub trait Address: Copy {
         self.as_usize() % PGSIZE == 0
     }
 
+    #[tactic(auto, unfolding(crate::specs::Answer::said))]
     fn pg_round_up(self) -> Result<Self, Refusal>
         ensures { said at result ≡ within64 (up (at self)) }
     {
@@ -47,6 +48,7 @@ pub trait Address: Copy {
         self.add_addr(PGSIZE)
     }
 
+    #[tactic(auto, unfolding(crate::specs::Answer::said))]
     fn add_addr(self, addr: u64) -> Result<Self, Refusal>
         ensures { said at result ≡ within64 (at self + addr) }
     {
@@ -101,6 +103,7 @@ impl VirtualAddress {
 
     // The index at a level: bits 12 to 20 at level 0, 21 to 29 at level 1, 30 to 38 at level 2. A level is a number, since C
     // may ask for any.
+    #[tactic(auto, using(crate::proofs::Answers::indexed, crate::proofs::Answers::too_high, crate::proofs::Pages::index_mask), unfolding(crate::specs::Answer::said))]
     pub fn page_num(self, level: u64) -> Result<u64, Refusal>
         ensures { number_said result ≡ index_at level self.0 }
     {
@@ -117,6 +120,7 @@ impl VirtualAddress {
         self.add_addr(other.0)
     }
 
+    #[tactic(auto, unfolding(crate::specs::Answer::said))]
     pub fn sub(self, other: Self) -> Result<Self, Refusal>
         ensures { virtual_said result ≡ at_least0 self.0 other.0 }
     {

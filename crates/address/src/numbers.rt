@@ -8,15 +8,15 @@ use refusal::Refusal;
 
 const OFFSET: u64 = PGSIZE - 1;
 
-const LAST: u64 = u64::MAX;
-
 // A sum and a difference that leave 64 bits are refused: the library's two methods, which one function of both would only choose between.
+#[tactic(auto, using(crate::proofs::Answers::summed))]
 pub fn sum(a: u64, b: u64) -> Result<u64, Refusal>
     ensures { number_said result ≡ within64 (a + b) }
 {
     a.checked_add(b).ok_or(Refusal::TooHigh)
 }
 
+#[tactic(auto, using(crate::proofs::Answers::lessened))]
 pub fn difference(a: u64, b: u64) -> Result<u64, Refusal>
     ensures { number_said result ≡ at_least0 a b }
 {
@@ -29,11 +29,9 @@ pub fn round_down(a: u64) -> u64
     a & !OFFSET
 }
 
+#[tactic(auto, using(crate::proofs::Answers::then_down), unfolding(crate::specs::Answer::said))]
 pub fn round_up(a: u64) -> Result<u64, Refusal>
     ensures { number_said result ≡ within64 (up a) }
 {
-    if a > LAST - OFFSET {
-        return Err(Refusal::TooHigh);
-    }
-    Ok((a + OFFSET) & !OFFSET)
+    Ok(round_down(sum(a, OFFSET)?))
 }

@@ -229,6 +229,7 @@ pub fn ronakvesh_copy_out(
     Reply::from(copies::copy_out(words, tmarks, bytes, fmarks, root, VirtualAddress(va), src))
 }
 
+#[tactic(auto, using(replies::proofs::StrReplies::str_reply))]
 pub fn ronakvesh_copy_in_str(
     words: &[u64],
     tmarks: &[u32],

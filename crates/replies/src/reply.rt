@@ -68,6 +68,7 @@ impl Value for StrRead {
 impl<V: Value> From<Result<V, Refusal>> for Reply {
     ghost from_gives = { λ answer r. r ≡ reply_of (said V.as_number answer) };
 
+    #[tactic(auto, unfolding(crate::specs::Reply::reply_of, address::specs::Answer::said))]
     fn from(answer: Result<V, Refusal>) -> Reply {
         match answer {
             Ok(v) => {

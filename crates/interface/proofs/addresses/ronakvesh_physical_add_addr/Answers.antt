@@ -1,7 +1,0 @@
--- `interface::addresses::ronakvesh_physical_add_addr` meets its contract: what its two callees ensure, joined. Assumes nothing.
-use mathlib.Core.Path.{ap, ◌∙◌}
-use Rattle.replies.specs.Reply.{reply_of}
-use Rattle.interface.proofs.addresses.ronakvesh_physical_add_addr.Goals as goal
-
-pub returns : goal.returns
-returns c = c.from.ensures ∙ ap reply_of c.add_addr.ensures
