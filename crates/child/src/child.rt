@@ -13,6 +13,7 @@ use unmap::IN_WINDOW;
 use walk::{Bits, RootPages};
 
 // Refuses what document 01 lists for two roots. A root is told by its mark, a number that the caller lends.
+#[tactic(auto, using(crate::proofs::ChildReasons::by_parent))]
 fn judge_child(store: &Store, parent: u64, child: u64, size: u64) -> Result<(), Refusal>
     ensures { Judges
         (ChildReason (seen store.now) parent child size)

@@ -54,6 +54,7 @@ fn pages_end(va: u64, n: u64) -> usize
 
 // Refuses n bytes from va on by the smallest refusal that applies.
 // The numbers are those that C asks with.
+#[tactic(auto, using(crate::proofs::CopyReasons::by_root))]
 pub fn judge_copy(store: &Store, root: u64, va: u64, n: usize) -> Result<(), Refusal>
     ensures { Judges
         (CopyReason (seen store.now) root va n)

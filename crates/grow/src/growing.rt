@@ -11,6 +11,7 @@ use walk::RootPages;
 
 // Refuses what `judge_sizes` of shrink refuses, and the new pages where `judge_fresh` does. No twin of `judge_shrink`, which asks another
 // judge of the pages between the sizes the other way round.
+#[tactic(auto, using(crate::proofs::GrowReasons::by_sizes))]
 fn judge_grow(store: &Store, root: u64, old: u64, new: u64) -> Result<(), Refusal>
     ensures { Judges
         (GrowReason (seen store.now) root old new)

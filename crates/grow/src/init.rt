@@ -9,6 +9,7 @@ use store::Store;
 use walk::RootPages;
 
 // Refuses what `judge_root` refuses, a source that does not fit, and page 0 where `judge_fresh` does.
+#[tactic(auto, using(crate::proofs::InitReasons::by_root))]
 fn judge_init(store: &Store, root: u64, src: &[u8]) -> Result<(), Refusal>
     ensures { Judges
         (InitReason (seen store.now) root src.now)

@@ -7,6 +7,7 @@ use store::Store;
 
 // Makes the lowest free table a root without pages, and answers its number. Only the marks of tables are
 // lent for writing (docs/DECISIONS.md, 42).
+#[tactic(auto, using(crate::proofs::CreateLaws::not_judged))]
 pub fn uvmcreate(
     words: &[u64],
     tmarks: &mut [u32],

@@ -52,6 +52,7 @@ fn judge_numbers(
 
 // Refuses what `judge_root` and the numbers do, a page that is mapped and tables that are too few. The numbers are those that C asks with,
 // and come apart, since what they make together is for `judge_numbers` to say.
+#[tactic(auto, using(crate::proofs::ReasonLaws::by_root, crate::proofs::ReasonLaws::no_numbers_lem))]
 pub fn judge_map(
     store: &Store,
     root: u64,

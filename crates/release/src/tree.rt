@@ -14,6 +14,7 @@ use walk::{Bits, RootPages};
 const PAGES: usize = 1 << 26;
 
 // Why a root may not be freed: the smallest reason.
+#[tactic(auto, using(crate::proofs::FreeReasons::by_root))]
 fn judge_free(store: &Store, root: u64) -> Result<(), Refusal>
     ensures { Judges
         (FreeReason (seen store.now) root)

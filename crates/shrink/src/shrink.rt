@@ -9,6 +9,7 @@ use store::Store;
 use walk::RootPages;
 
 // Refuses what `judge_sizes` refuses, and the pages that leave where `judge_leave` does, freeing, which is its `true`.
+#[tactic(auto, using(crate::proofs::ShrinkReasons::by_sizes))]
 fn judge_shrink(store: &Store, root: u64, old: u64, new: u64) -> Result<(), Refusal>
     ensures { Judges
         (ShrinkReason (seen store.now) root old new)

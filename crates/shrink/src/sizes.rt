@@ -9,6 +9,7 @@ use refusal::Refusal;
 use store::Store;
 
 // Refuses what `judge_root` refuses, and a size above 2^38. Which size is the old one only its callers know.
+#[tactic(auto, using(crate::proofs::SizeReasons::by_root))]
 pub fn judge_sizes(store: &Store, root: u64, old: u64, new: u64) -> Result<(), Refusal>
     ensures { Judges
         (SizeReason (seen store.now) root old new)

@@ -48,6 +48,7 @@ fn first_zero(part: &[u8]) -> usize
 }
 
 // Follows at most max bytes from va on, page by page, up to the first zero. Root and address are C's two numbers.
+#[tactic(auto, using(crate::proofs::TextCode::refuse))]
 fn measure(store: &Store, root: usize, va: u64, max: usize) -> Result<StrRead, Refusal>
     requires { RootReady (seen store.now) root }
     ensures { Measures (seen store.now) root va max result }
@@ -77,6 +78,7 @@ fn measure(store: &Store, root: usize, va: u64, max: usize) -> Result<StrRead, R
 }
 
 // The bytes from va on, up to the first zero, go to the buffer; behind the zero or the buffer's end nothing is looked at.
+#[tactic(auto, using(crate::proofs::TextReasons::by_root))]
 pub fn copy_in_str(
     store: &Store,
     root: u64,

@@ -9,6 +9,7 @@ use refusal::Refusal;
 use store::Store;
 
 // The address of the frame that the page of va resolves to, which must have U. Root and address are C's two numbers.
+#[tactic(auto, using(crate::proofs::TranslateLaws::by_root))]
 pub fn pgt_translate(store: &Store, root: u64, va: VirtualAddress) -> Result<u64, Refusal>
     ensures { Translate (seen store.now) root va.0 result }
 {

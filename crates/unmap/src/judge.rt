@@ -66,6 +66,7 @@ fn too_high(first: u64, n: u64) -> bool
 
 // Refuses what `judge_root` refuses, pages that lie too high, an address that is not aligned, and the pages where `judge_leave` does.
 // The numbers are those that C asks with.
+#[tactic(auto, using(crate::proofs::UnmapReasons::by_root))]
 pub fn judge_unmap(
     store: &Store,
     root: u64,

@@ -50,6 +50,7 @@ pub fn uvm_unmap(
 
 // Takes U away from the page of va. A page that is not mapped stays so, where its level-0 table is there;
 // a slot below 2 is none, as `slot_in` says.
+#[tactic(auto, using(crate::proofs::ClearLaws::by_root))]
 pub fn uvm_clear(
     words: &mut [u64],
     tmarks: &[u32],

@@ -50,6 +50,7 @@ pub fn judge_store(store: &Store) -> Result<(), Refusal>
 }
 
 // Refuses such a store, and a root named in it that is none: a root's mark is 1, in the marks that the caller lends.
+#[tactic(auto, using(crate::proofs::RootReasons::not_judged))]
 pub fn judge_root(store: &Store, root: u64) -> Result<(), Refusal>
     ensures { Judges (RootReason (seen store.now) root) (RootReady (seen store.now) root) result }
 {

@@ -4,9 +4,6 @@ use Rattle.std.proofs.lemmas.Result.{err_from_is_err_and}
 use Rattle.well_formed.proofs.RootReasons.{not_judged, no_3, named}
 use Rattle.well_formed.proofs.judge_root.Goals as goal
 
-pub returns-in_err-judge_store : goal.returns-in_err-judge_store
-returns-in_err-judge_store c = let p = err_from_is_err_and c.from_residual.result c.from_residual.ensures.1 in rw (p.1, p.2) (not_judged _ _ _ c.in_err-judge_store.ensures)
-
 pub returns-then-mark_at-ne1 : goal.returns-then-mark_at-ne1
 returns-then-mark_at-ne1 c = no_3 _ _ c.in_ok-judge_store.ensures (λ q. c.if-mark_at-ne1.true (c.mark_at.ensures.0 ∙ q))
 

@@ -6,9 +6,6 @@ use Rattle.child.proofs.ChildPages.{no_11, no_14, no_15, by_fresh}
 use Rattle.child.proofs.ChildReasons.{by_parent, no_3, no_4, no_6, no_7, at_page, by_pages}
 use Rattle.child.proofs.child.judge_child.Goals as goal
 
-pub returns-in_err-judge_root : goal.returns-in_err-judge_root
-returns-in_err-judge_root c = let p = err_from_is_err_and c.from_residual.result c.from_residual.ensures.1 in rw (p.1, p.2) (by_parent _ _ _ _ _ c.in_err-judge_root.ensures)
-
 pub returns-then-mark_at-ne1 : goal.returns-then-mark_at-ne1
 returns-then-mark_at-ne1 c = no_3 _ _ _ _ c.in_ok-judge_root.ensures (λ e. c.if-mark_at-ne1.true (c.mark_at.ensures.0 ∙ e))
 

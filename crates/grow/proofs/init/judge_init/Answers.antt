@@ -3,9 +3,6 @@ use Rattle.std.proofs.lemmas.Result.{err_from_is_err_and}
 use Rattle.grow.proofs.InitReasons.{by_root, no_5, by_page}
 use Rattle.grow.proofs.init.judge_init.Goals as goal
 
-pub returns-in_err-judge_root : goal.returns-in_err-judge_root
-returns-in_err-judge_root c = let p = err_from_is_err_and c.from_residual.result c.from_residual.ensures.1 in rw (p.1, p.2) (by_root _ _ _ _ c.in_err-judge_root.ensures)
-
 pub returns-then-src-ge4096 : goal.returns-then-src-ge4096
 returns-then-src-ge4096 c = no_5 _ _ _ c.in_ok-judge_root.ensures c.if-src-ge4096.true
 

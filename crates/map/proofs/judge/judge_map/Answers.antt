@@ -3,14 +3,6 @@ use Rattle.std.proofs.lemmas.Result.{err_from_is_err_and}
 use Rattle.map.proofs.ReasonLaws.{by_root, no_numbers_lem, nothing, no_14, no_17, all_ready}
 use Rattle.map.proofs.judge.judge_map.Goals as goal
 
-pub returns-in_err-judge_root : goal.returns-in_err-judge_root
-returns-in_err-judge_root c = let p = err_from_is_err_and c.from_residual.result c.from_residual.ensures.1 in rw (p.1, p.2) (by_root _ _ _ _ _ _ c.in_err-judge_root.ensures)
-
-pub returns-in_err-judge_numbers : goal.returns-in_err-judge_numbers
-returns-in_err-judge_numbers c =
-    let p = err_from_is_err_and c.from_residual-in_err-judge_numbers.result c.from_residual-in_err-judge_numbers.ensures.1 in
-    rw (p.1, p.2) (no_numbers_lem _ _ _ _ _ _ c.in_ok-judge_root.ensures c.in_err-judge_numbers.ensures)
-
 pub returns-then-end-first : goal.returns-then-end-first
 returns-then-end-first c =
     let p = c.page_range-range.ensures in

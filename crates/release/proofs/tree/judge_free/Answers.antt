@@ -3,9 +3,6 @@ use Rattle.std.proofs.lemmas.Result.{err_from_is_err_and}
 use Rattle.release.proofs.FreeReasons.{by_root, no_18, all_clear}
 use Rattle.release.proofs.tree.judge_free.Goals as goal
 
-pub returns-in_err-judge_root : goal.returns-in_err-judge_root
-returns-in_err-judge_root c = let p = err_from_is_err_and c.from_residual.result c.from_residual.ensures.1 in rw (p.1, p.2) (by_root _ _ _ c.in_err-judge_root.ensures)
-
 pub returns-then-count_pages-ne0 : goal.returns-then-count_pages-ne0
 returns-then-count_pages-ne0 c = no_18 _ _ c.in_ok-judge_root.ensures _ c.count_pages.ensures c.if-count_pages-ne0.true
 

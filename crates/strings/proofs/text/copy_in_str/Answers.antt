@@ -6,9 +6,6 @@ use Rattle.strings.proofs.TextLaws.{within, may_read, done}
 use Rattle.strings.proofs.TextReasons.{by_root}
 use Rattle.strings.proofs.text.copy_in_str.Goals as goal
 
-pub returns-in_err-judge_root : goal.returns-in_err-judge_root
-returns-in_err-judge_root c = let p = err_from_is_err_and c.from_residual.result c.from_residual.ensures.1 in rw (p.1, p.2) (by_root _ _ _ _ _ c.in_err-judge_root.ensures, refl)
-
 pub slice_bounds-read_bytes-end : goal.slice_bounds-read_bytes-end
 slice_bounds-read_bytes-end c = within _ _ _ _ _ _ c.in_ok-read.ensures
 

@@ -8,12 +8,6 @@ use Rattle.strings.proofs.text.measure.Goals as goal
 pub overflow_add-a : goal.overflow_add-a
 overflow_add-a c = omega (arith, fits _ _ _ _ _ c.loop-k.invariant (omega arith))
 
-pub returns-in_err-judge_page : goal.returns-in_err-judge_page
-returns-in_err-judge_page c =
-    let p = err_from_is_err_and c.from_residual.result c.from_residual.ensures.1 in
-    let l = c.loop-k in
-    rw (p.1, p.2) (refuse _ _ _ _ c.requires l.i l.invariant.passed l.invariant.needed _ c.in_err-judge_page.ensures)
-
 pub place-from-requires : goal.place-from-requires
 place-from-requires c = placed _ _ _ c.requires c.in_ok-judge_page.ensures
 

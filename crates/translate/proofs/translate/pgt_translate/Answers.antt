@@ -4,9 +4,6 @@ use Rattle.std.proofs.lemmas.Result.{err_from_is_err_and}
 use Rattle.translate.proofs.TranslateLaws.{by_root, no_6, no_11, no_12, done}
 use Rattle.translate.proofs.translate.pgt_translate.Goals as goal
 
-pub returns-in_err-judge_root : goal.returns-in_err-judge_root
-returns-in_err-judge_root c = let p = err_from_is_err_and c.from_residual.result c.from_residual.ensures.1 in rw (p.1, p.2) (by_root _ _ _ _ c.in_err-judge_root.ensures, refl)
-
 pub returns-then-va-ge-MAXVA : goal.returns-then-va-ge-MAXVA
 returns-then-va-ge-MAXVA c = (no_6 _ _ _ c.in_ok-judge_root.ensures c.if-va-ge-MAXVA.true, refl)
 

@@ -5,9 +5,6 @@ use Rattle.store.proofs.Tests.{yes, no}
 use Rattle.unmap.proofs.UnmapReasons.{by_root, no_6, no_7, in_reach, by_range}
 use Rattle.unmap.proofs.judge.judge_unmap.Goals as goal
 
-pub returns-in_err-judge_root : goal.returns-in_err-judge_root
-returns-in_err-judge_root c = let p = err_from_is_err_and c.from_residual.result c.from_residual.ensures.1 in rw (p.1, p.2) (by_root _ _ _ _ _ _ c.in_err-judge_root.ensures)
-
 pub returns-then-too_high : goal.returns-then-too_high
 returns-then-too_high c = no_6 _ _ _ _ _ c.in_ok-judge_root.ensures (yes _ c.if-too_high.true c.too_high.ensures)
 
