@@ -3,6 +3,8 @@ use mathlib.Core.Path.{◌≡◌, refl, sym, ◌∙◌, subst⁻¹}
 use mathlib.Core.Bool.{Bool, true, false}
 use Prim.Native.Nat.{ℕ, ◌*◌, ◌/◌, ◌%◌, ◌^◌, ◌≤◌, ◌<◌}
 use native.Mathlib.Omega.{arith}
+use mathlib.Core.Logic.{by_cases}
+use native.Mathlib.Decide.{dec_lt}
 use lib.Dec.{ltb, leb, lit<, lit≤}
 use lib.Bits.{bit_or, or_shifted}
 use lib.Pow.{shl_exact}
@@ -44,10 +46,14 @@ module _ (pa : ℕ) where
   pub shifted : pa < 2 ^ 56 → pa / 4096 * 1024 % 2 ^ 64 ≡ name_of pa
   shifted l = shl_exact {a = pa / 4096} 44 10 64 (omega arith) (lit≤ tt)
 
+  -- an entry that `as_pte` answers is the name of a frame below 2 ^ 56
+  pub name_answered : (e : ℕ) → answered e ≡ named pa → (e ≡ name_of pa) × (pa < 2 ^ 56)
+  name_answered e p = by_cases (dec_lt pa (2 ^ 56)) (λ l. (value (p ∙ sym (name l)), l)) (λ h. absurd (clash (nine (omega arith) ∙ sym p)))
+
 module _ (pa perm : ℕ) where
-  -- `((pa >> 12) << 10) | perm`, and V
-  pub joined : perm ≤ 1023 → pa < 2 ^ 56 → with_bit bit_v 1 (bit_or (pa / 4096 * 1024 % 2 ^ 64) perm) ≡ entry_of pa perm
-  joined h l = rw (shifted pa l, or_shifted (pa / 4096) 10 perm (omega arith)) (omega arith)
+  -- the name, `| perm`, and V
+  pub joined : perm ≤ 1023 → with_bit bit_v 1 (bit_or (name_of pa) perm) ≡ entry_of pa perm
+  joined h = rw (or_shifted (pa / 4096) 10 perm (omega arith)) (omega arith)
 
   pub eight : 1023 < perm → refused 8 ≡ written pa perm
   unfolding written
@@ -56,6 +62,10 @@ module _ (pa perm : ℕ) where
   pub then_nine : perm ≤ 1023 → 2 ^ 56 ≤ pa → refused 9 ≡ written pa perm
   unfolding written
   then_nine h l = simp (le-ltb 1023 perm h, le-leb (2 ^ 56) pa l)
+
+  -- what `as_pte` refuses
+  pub frame_refused : perm ≤ 1023 → (n : ℕ) → refused n ≡ named pa → refused n ≡ written pa perm
+  frame_refused h n p = by_cases (dec_lt pa (2 ^ 56)) (λ l. absurd (clash (p ∙ sym (name pa l)))) (λ l. p ∙ sym (nine pa (omega arith)) ∙ then_nine h (omega arith))
 
   pub entry : perm ≤ 1023 → pa < 2 ^ 56 → answered (entry_of pa perm) ≡ written pa perm
   unfolding written

@@ -149,9 +149,7 @@ impl PageTableEntry {
         if perm > FLAGS {
             return Err(Refusal::Permissions);
         }
-        if pa.0 >= PAST_FRAMES {
-            return Err(Refusal::FrameTooHigh);
-        }
-        Ok(Self(((pa.0 >> 12) << 10) | perm).add_valid_bit())
+        let e = Self::as_pte(pa)?;
+        Ok(Self(e.0 | perm).add_valid_bit())
     }
 }

@@ -10,7 +10,7 @@ use strings::StrRead;
 
 // An answer as C reads it: number 0 and the value, or the number of the refusal and 0. C has no `Result`.
 #[repr(C)]
-#[derive(Drop)]
+#[derive(Clone, Copy, PartialEq, Eq)]
 pub struct Reply {
     pub number: u64,
     pub value: u64,

@@ -48,9 +48,7 @@ impl TryFrom<[u64; list::COLUMNS]> for Row {
 impl Row {
     // Whether a reply, and the digest of the memory afterwards, are as the row says.
     pub fn agrees(&self, reply: &Reply, digest: u64) -> bool {
-        reply.number == self.reply.number
-            && reply.value == self.reply.value
-            && digest == self.digest
+        *reply == self.reply && digest == self.digest
     }
 }
 

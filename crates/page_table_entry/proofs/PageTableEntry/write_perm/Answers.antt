@@ -1,18 +1,23 @@
 -- `page_table_entry::PageTableEntry::write_perm` meets its contract. Assumes nothing.
 use mathlib.Core.Path.{ap, ◌∙◌}
 use native.Mathlib.Omega.{arith}
+use Rattle.std.proofs.lemmas.Result.{err_from_is_err_and}
 use Rattle.address.specs.Answer.{said, answered}
-use Rattle.page_table_entry.proofs.Built.{eight, then_nine, entry, joined, is_written}
+use Rattle.page_table_entry.proofs.Built.{eight, frame_refused, name_answered, entry, joined, is_written}
 use Rattle.page_table_entry.proofs.PageTableEntry.write_perm.Goals as goal
 
 pub returns-then-perm-gt-FLAGS : goal.returns-then-perm-gt-FLAGS
 unfolding said
 returns-then-perm-gt-FLAGS c = is_written _ _ _ (eight _ _ (omega arith))
 
-pub returns-then-pa-ge-PAST_FRAMES : goal.returns-then-pa-ge-PAST_FRAMES
+pub returns-in_err-e : goal.returns-in_err-e
 unfolding said
-returns-then-pa-ge-PAST_FRAMES c = is_written _ _ _ (then_nine _ _ (omega arith) (omega arith))
+returns-in_err-e c =
+    let p = err_from_is_err_and c.from_residual.result c.from_residual.ensures.1 in
+    rw (p.1, p.2) (is_written _ _ _ (frame_refused _ _ (omega arith) _ c.in_err-e.ensures.whole))
 
 pub returns : goal.returns
 unfolding said
-returns c = is_written _ _ _ (ap answered (c.add_valid_bit.ensures.whole ∙ joined _ _ (omega arith) (omega arith)) ∙ entry _ _ (omega arith) (omega arith))
+returns c =
+    let e = name_answered _ _ c.in_ok-e.ensures.whole in
+    is_written _ _ _ (ap answered (c.add_valid_bit.ensures.whole ∙ rw (e.0) (joined _ _ (omega arith))) ∙ entry _ _ (omega arith) e.1)
