@@ -1,7 +1,6 @@
 -- `well_formed::judge_root` meets its contract. Assumes nothing.
 use mathlib.Core.Path.{sym, ◌∙◌}
-use Rattle.std.proofs.lemmas.Result.{err_from_is_err_and}
-use Rattle.well_formed.proofs.RootReasons.{not_judged, no_3, named}
+use Rattle.well_formed.proofs.RootReasons.{no_3, named}
 use Rattle.well_formed.proofs.judge_root.Goals as goal
 
 pub returns-then-mark_at-ne1 : goal.returns-then-mark_at-ne1

@@ -1,9 +1,8 @@
 -- `child::child::judge_child` meets its contract. Assumes nothing.
 use native.Mathlib.Omega.{arith}
 use mathlib.Core.Path.{◌∙◌}
-use Rattle.std.proofs.lemmas.Result.{err_from_is_err_and}
 use Rattle.child.proofs.ChildPages.{no_11, no_14, no_15, by_fresh}
-use Rattle.child.proofs.ChildReasons.{by_parent, no_3, no_4, no_6, no_7, at_page, by_pages}
+use Rattle.child.proofs.ChildReasons.{no_3, no_4, no_6, no_7, at_page, by_pages}
 use Rattle.child.proofs.child.judge_child.Goals as goal
 
 pub returns-then-mark_at-ne1 : goal.returns-then-mark_at-ne1

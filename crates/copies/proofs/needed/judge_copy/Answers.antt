@@ -1,6 +1,5 @@
 -- `copies::needed::judge_copy` meets its contract. Assumes nothing.
-use Rattle.std.proofs.lemmas.Result.{err_from_is_err_and}
-use Rattle.copies.proofs.CopyReasons.{by_root, no_6, no_6_end, no_11, no_12, no_15, all_ready}
+use Rattle.copies.proofs.CopyReasons.{no_6, no_6_end, no_11, no_12, no_15, all_ready}
 use Rattle.copies.proofs.needed.judge_copy.Goals as goal
 
 pub returns-then-va-ge-MAXVA : goal.returns-then-va-ge-MAXVA

@@ -1,6 +1,5 @@
 -- `grow::growing::judge_grow` meets its contract. Assumes nothing.
-use Rattle.std.proofs.lemmas.Result.{err_from_is_err_and}
-use Rattle.grow.proofs.GrowReasons.{by_sizes, by_pages, no_pages}
+use Rattle.grow.proofs.GrowReasons.{by_pages, no_pages}
 use Rattle.grow.proofs.growing.judge_grow.Goals as goal
 
 pub returns-then-end-first : goal.returns-then-end-first

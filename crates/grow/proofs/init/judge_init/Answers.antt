@@ -1,6 +1,5 @@
 -- `grow::init::judge_init` meets its contract. Assumes nothing.
-use Rattle.std.proofs.lemmas.Result.{err_from_is_err_and}
-use Rattle.grow.proofs.InitReasons.{by_root, no_5, by_page}
+use Rattle.grow.proofs.InitReasons.{no_5, by_page}
 use Rattle.grow.proofs.init.judge_init.Goals as goal
 
 pub returns-then-src-ge4096 : goal.returns-then-src-ge4096

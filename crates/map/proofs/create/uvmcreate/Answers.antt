@@ -1,7 +1,6 @@
 -- `map::create::uvmcreate` meets its contract. Assumes nothing.
 use mathlib.Core.Path.{refl}
-use Rattle.std.proofs.lemmas.Result.{err_from_is_err_and}
-use Rattle.map.proofs.CreateLaws.{not_judged, no_17, clear}
+use Rattle.map.proofs.CreateLaws.{no_17, clear}
 use Rattle.map.proofs.create.uvmcreate.Goals as goal
 
 pub returns-then-not-enough_free : goal.returns-then-not-enough_free

@@ -1,6 +1,5 @@
 -- `map::judge::judge_map` meets its contract. Assumes nothing.
-use Rattle.std.proofs.lemmas.Result.{err_from_is_err_and}
-use Rattle.map.proofs.ReasonLaws.{by_root, no_numbers_lem, nothing, no_14, no_17, all_ready}
+use Rattle.map.proofs.ReasonLaws.{nothing, no_14, no_17, all_ready}
 use Rattle.map.proofs.judge.judge_map.Goals as goal
 
 pub returns-then-end-first : goal.returns-then-end-first

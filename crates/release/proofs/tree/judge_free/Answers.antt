@@ -1,6 +1,5 @@
 -- `release::tree::judge_free` meets its contract. Assumes nothing.
-use Rattle.std.proofs.lemmas.Result.{err_from_is_err_and}
-use Rattle.release.proofs.FreeReasons.{by_root, no_18, all_clear}
+use Rattle.release.proofs.FreeReasons.{no_18, all_clear}
 use Rattle.release.proofs.tree.judge_free.Goals as goal
 
 pub returns-then-count_pages-ne0 : goal.returns-then-count_pages-ne0

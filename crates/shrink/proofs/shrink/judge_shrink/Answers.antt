@@ -1,6 +1,5 @@
 -- `shrink::shrink::judge_shrink` meets its contract. Assumes nothing.
-use Rattle.std.proofs.lemmas.Result.{err_from_is_err_and}
-use Rattle.shrink.proofs.ShrinkReasons.{by_sizes, by_pages}
+use Rattle.shrink.proofs.ShrinkReasons.{by_pages}
 use Rattle.shrink.proofs.shrink.judge_shrink.Goals as goal
 
 pub returns : goal.returns

@@ -1,7 +1,6 @@
 -- `shrink::sizes::judge_sizes` meets its contract. Assumes nothing.
 use mathlib.Core.Logic.{inl, inr, ⊎_elim}
-use Rattle.std.proofs.lemmas.Result.{err_from_is_err_and}
-use Rattle.shrink.proofs.SizeReasons.{by_root, no_6}
+use Rattle.shrink.proofs.SizeReasons.{no_6}
 use Rattle.shrink.proofs.sizes.judge_sizes.Goals as goal
 
 pub returns-then-old-gt-MAXVA : goal.returns-then-old-gt-MAXVA

@@ -1,9 +1,7 @@
 -- `strings::text::copy_in_str` meets its contract. Assumes nothing.
 use lib.Seq.{length-take-le}
-use mathlib.Core.Path.{refl, sym}
-use Rattle.std.proofs.lemmas.Result.{err_from_is_err_and}
+use mathlib.Core.Path.{sym}
 use Rattle.strings.proofs.TextLaws.{within, may_read, done}
-use Rattle.strings.proofs.TextReasons.{by_root}
 use Rattle.strings.proofs.text.copy_in_str.Goals as goal
 
 pub slice_bounds-read_bytes-end : goal.slice_bounds-read_bytes-end

@@ -1,8 +1,7 @@
 -- `strings::text::measure` meets its contract. The invariant: the string has been followed up to byte i, whose page is needed. Assumes nothing.
 use native.Mathlib.Omega.{arith}
-use Rattle.std.proofs.lemmas.Result.{err_from_is_err_and}
 use Rattle.copies.proofs.PageReasons.{placed}
-use Rattle.strings.proofs.TextCode.{fits, refuse, met, whole, again}
+use Rattle.strings.proofs.TextCode.{fits, met, whole, again}
 use Rattle.strings.proofs.text.measure.Goals as goal
 
 pub overflow_add-a : goal.overflow_add-a

@@ -1,7 +1,6 @@
 -- `translate::translate::pgt_translate` meets its contract. Assumes nothing.
 use mathlib.Core.Path.{refl}
-use Rattle.std.proofs.lemmas.Result.{err_from_is_err_and}
-use Rattle.translate.proofs.TranslateLaws.{by_root, no_6, no_11, no_12, done}
+use Rattle.translate.proofs.TranslateLaws.{no_6, no_11, no_12, done}
 use Rattle.translate.proofs.translate.pgt_translate.Goals as goal
 
 pub returns-then-va-ge-MAXVA : goal.returns-then-va-ge-MAXVA

@@ -1,8 +1,7 @@
 -- `unmap::judge::judge_unmap` meets its contract. Assumes nothing.
 use native.Mathlib.Omega.{arith}
-use Rattle.std.proofs.lemmas.Result.{err_from_is_err_and}
 use Rattle.store.proofs.Tests.{yes, no}
-use Rattle.unmap.proofs.UnmapReasons.{by_root, no_6, no_7, in_reach, by_range}
+use Rattle.unmap.proofs.UnmapReasons.{no_6, no_7, in_reach, by_range}
 use Rattle.unmap.proofs.judge.judge_unmap.Goals as goal
 
 pub returns-then-too_high : goal.returns-then-too_high

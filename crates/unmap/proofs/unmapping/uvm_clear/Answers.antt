@@ -1,6 +1,5 @@
 -- `unmap::unmapping::uvm_clear` meets its contract. Assumes nothing.
-use Rattle.std.proofs.lemmas.Result.{err_from_is_err_and}
-use Rattle.unmap.proofs.ClearLaws.{by_root, no_6, no_11, done}
+use Rattle.unmap.proofs.ClearLaws.{no_6, no_11, done}
 use Rattle.unmap.proofs.unmapping.uvm_clear.Goals as goal
 
 pub returns-then-va-ge-MAXVA : goal.returns-then-va-ge-MAXVA
