@@ -26,7 +26,7 @@ pub fn read_bytes(store: &Store, root: usize, va: u64, dst: &mut [u8])
         let a = va + (i as u64);
         let k = (4096 - (a % 4096) as usize).min(dst.len() - i);
         let from = place(store.words, root, a);
-        dst[i..i + k].copy_from_slice(&store.bytes[from..from + k]);
+        store::copy_bytes(&mut dst[i..i + k], &store.bytes[from..from + k]);
         i += k;
     }
 }
@@ -51,7 +51,7 @@ pub fn write_bytes(
         let a = va + (i as u64);
         let k = (4096 - (a % 4096) as usize).min(src.len() - i);
         let to = place(words, root, a);
-        bytes[to..to + k].copy_from_slice(&src[i..i + k]);
+        store::copy_bytes(&mut bytes[to..to + k], &src[i..i + k]);
         i += k;
     }
 }

@@ -34,7 +34,7 @@ fn write_frame(frame: &mut [u8], src: &[u8])
     ensures { frame.new ≡ padded src.now }
 {
     let n = src.len();
-    frame[..n].copy_from_slice(src);
+    store::copy_bytes(&mut frame[..n], src);
     frame[n..].fill(0);
 }
 

@@ -1,6 +1,6 @@
 // A result as a reply: two numbers, whatever kind of value it has.
 ghost use Rattle.std.specs.Prelude.{◌≡◌, ℕ};
-ghost use Rattle.address.specs.Answer.{said};
+ghost use Rattle.address.specs.Answer.{refused, said};
 ghost use Rattle.replies.specs.Reply.{reply_of};
 
 use address::{Address, PhysicalAddress, VirtualAddress};
@@ -14,6 +14,16 @@ use strings::StrRead;
 pub struct Reply {
     pub number: u64,
     pub value: u64,
+}
+
+impl Reply {
+    // A refusal with this number, whatever number it is.
+    #[tactic(auto, unfolding(crate::specs::Reply::reply_of))]
+    pub fn refused(number: u64) -> Reply
+        ensures { result ≡ reply_of (refused number) }
+    {
+        Reply { number, value: 0 }
+    }
 }
 
 // What is a number in a reply.
@@ -75,10 +85,7 @@ impl<V: Value> From<Result<V, Refusal>> for Reply {
                 let value = v.value();
                 Reply { number: 0, value }
             }
-            Err(refusal) => {
-                let number = refusal.number();
-                Reply { number, value: 0 }
-            }
+            Err(refusal) => Reply::refused(refusal.number()),
         }
     }
 }

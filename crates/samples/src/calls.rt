@@ -15,25 +15,35 @@ struct Memory<const WORDS: usize, const TABLES: usize> {
     fmarks: [u32; 8],
 }
 
-// A fresh store with root 0.
-fn with_root<const WORDS: usize, const TABLES: usize>() -> Memory<WORDS, TABLES>
-    requires { (WORDS ≤ 4096) × (TABLES ≤ 8) }
-{
-    let mut m = Memory {
-        words: [0u64; WORDS],
-        tmarks: [0u32; TABLES],
-        bytes: [0u8; 32768],
-        fmarks: [0u32; 8],
-    };
-    let _ = store::set_up(&mut m.words, &mut m.tmarks, &mut m.bytes, &mut m.fmarks);
-    let _ = map::uvmcreate(&m.words, &mut m.tmarks, &m.bytes, &m.fmarks);
-    m
+impl<const WORDS: usize, const TABLES: usize> Memory<WORDS, TABLES> {
+    fn new() -> Self
+        requires { (WORDS ≤ 4096) × (TABLES ≤ 8) }
+    {
+        Memory {
+            words: [0u64; WORDS],
+            tmarks: [0u32; TABLES],
+            bytes: [0u8; 32768],
+            fmarks: [0u32; 8],
+        }
+    }
+
+    // A fresh store with root 0, made where it lies: a memory that is handed on after it was lent is copied.
+    fn make_root(&mut self) {
+        let _ = store::set_up(
+            &mut self.words,
+            &mut self.tmarks,
+            &mut self.bytes,
+            &mut self.fmarks,
+        );
+        let _ = map::uvmcreate(&self.words, &mut self.tmarks, &self.bytes, &self.fmarks);
+    }
 }
 
 // What growing from old to new answers with 8 tables, and how many pages are then mapped.
-// Each sample here makes one call of its own on a fresh store; what they share is `with_root` and `put_result`.
+// Each sample here makes one call of its own on a fresh store; what they share is `Memory` and `put_result`.
 pub fn growing(rt: &impl Print, name: &str, old: u64, new: u64) -> io::Result<()> {
-    let mut m = with_root::<4096, 8>();
+    let mut m = Memory::<4096, 8>::new();
+    m.make_root();
     let grown = grow::uvm_alloc(
         &mut m.words,
         &mut m.tmarks,
@@ -56,7 +66,8 @@ pub fn growing(rt: &impl Print, name: &str, old: u64, new: u64) -> io::Result<()
 
 // What this source answers with 8 tables.
 pub fn loading(rt: &impl Print, name: &str, src: &[u8]) -> io::Result<()> {
-    let mut m = with_root::<4096, 8>();
+    let mut m = Memory::<4096, 8>::new();
+    m.make_root();
     let loaded = grow::uvm_init(
         &mut m.words,
         &mut m.tmarks,
@@ -78,7 +89,8 @@ pub fn mapping<const WORDS: usize, const TABLES: usize>(
 ) -> io::Result<()>
     requires { (WORDS ≤ 4096) × (TABLES ≤ 8) }
 {
-    let mut m = with_root::<WORDS, TABLES>();
+    let mut m = Memory::<WORDS, TABLES>::new();
+    m.make_root();
     let va = VirtualAddress(4096);
     let pa = PhysicalAddress(0x8000_0000);
     let mapped = map::map(

@@ -1,7 +1,8 @@
 // The store that every call works on: four lent slices in place of the kernel's boxes and raw pages.
-// Its sizes, marks and levels, the lowest free table or frame, how many are free, and set-up.
+// Its sizes, marks and levels, the lowest free table or frame, how many are free, set-up, and bytes copied.
 #![tactic(auto)]
 
+mod copy;
 mod count;
 mod marks;
 
@@ -9,6 +10,7 @@ ghost use Rattle.store.specs.Says.{Says};
 ghost use Rattle.store.specs.Store.{store_of, seen, Sized};
 ghost use Rattle.store.specs.SetUp.{SetUp};
 
+pub use copy::copy_bytes;
 pub use count::{count_free, enough_free};
 pub use marks::{level_of, lowest_free, lowest_from, mark_at, word_at};
 use refusal::Refusal;

@@ -3,7 +3,7 @@ ghost use Rattle.std.specs.Prelude.{◌≡◌, ◌+◌, ◌<◌, ◌≤◌, leng
 ghost use Rattle.store.specs.Store.{Store, store_of};
 ghost use Rattle.unmap.specs.Leave.{given_back, leave_run, leave_pages, FramesBecome, CanLeave};
 
-// Entry e goes: the pool frame that it names, if it names one, is free again. A frame is a number, since entries name it so.
+// Entry e has gone: the pool frame that it names, if it names one, is free again. A frame is a number, since entries name it so.
 fn give_back(fmarks: &mut [u32], e: u64)
     ensures { fmarks.new ≡ given_back fmarks.old e }
 {
@@ -12,17 +12,19 @@ fn give_back(fmarks: &mut [u32], e: u64)
     }
 }
 
-// The words of n slots from slot m on become 0; with freeing, which is C's flag, their pool frames are given back.
+// The words of n slots from slot m on become 0; with freeing, which is C's flag, their pool frames are given back. Each word goes before
+// its frame: no frame is free while a word still names it.
 fn leave_run(words: &mut [u64], fmarks: &mut [u32], m: usize, n: usize, freeing: bool)
     requires { (2 ≤ m) × (m + n ≤ 2 + length words.old) }
     ensures { FramesBecome words.old fmarks.old (λ (s : Store). leave_run s m n freeing) words.new fmarks.new }
 {
     let w = m - 2;
     for word in &mut words[w..w + n] {
-        if freeing {
-            give_back(fmarks, *word);
-        }
+        let e = *word;
         *word = 0;
+        if freeing {
+            give_back(fmarks, e);
+        }
     }
 }
 

@@ -17,4 +17,4 @@ place-from-requires c = placed _ _ _ c.requires.at_root (c.requires.pages _ (inl
 
 pub loop-i-preserved : goal.loop-i-preserved
 loop-i-preserved c =
-    (omega arith, search rules, read_more _ _ _ _ _ _ c.loop-i.invariant.2 c.requires (omega arith) _ _ _ c.min-k.ensures (c.place-from.ensures _ _ _) _ c.copy_from_slice.ensures.after)
+    (omega arith, search rules, read_more _ _ _ _ _ _ c.loop-i.invariant.2 c.requires (omega arith) _ _ _ c.min-k.ensures (c.place-from.ensures _ _ _) _ c.copy_bytes.ensures)

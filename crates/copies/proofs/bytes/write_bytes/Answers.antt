@@ -14,7 +14,7 @@ place-to-requires c = placed _ _ _ c.requires.at_root (c.requires.pages _ (inl c
 
 pub loop-i-preserved : goal.loop-i-preserved
 loop-i-preserved c =
-    (omega arith, search rules, write_more _ _ _ _ _ _ _ c.loop-i.invariant.2 c.requires c.loop-i-test.true c.loop-i.invariant.1 _ _ c.min-k.ensures (c.place-to.ensures _ _ _) _ c.copy_from_slice.ensures.after)
+    (omega arith, search rules, write_more _ _ _ _ _ _ _ c.loop-i.invariant.2 c.requires c.loop-i-test.true c.loop-i.invariant.1 _ _ c.min-k.ensures (c.place-to.ensures _ _ _) _ c.copy_bytes.ensures)
 
 pub returns : goal.returns
 returns c = write_all _ _ _ _ _ _ _ c.loop-i.invariant.2 (omega arith)
