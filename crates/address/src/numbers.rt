@@ -29,7 +29,8 @@ pub fn round_down(a: u64) -> u64
     a & !OFFSET
 }
 
-#[tactic(auto, using(crate::proofs::Answers::then_down), unfolding(crate::specs::Answer::said))]
+// The law of masks proves a body that masks the sum itself, so that an edit of the mask is refused for the mask.
+#[tactic(auto, using(crate::proofs::Answers::then_down, crate::proofs::Pages::down_mask), unfolding(crate::specs::Answer::said))]
 pub fn round_up(a: u64) -> Result<u64, Refusal>
     ensures { number_said result ≡ within64 (up a) }
 {

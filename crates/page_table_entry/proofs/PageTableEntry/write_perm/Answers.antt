@@ -1,8 +1,11 @@
 -- `page_table_entry::PageTableEntry::write_perm` meets its contract. Assumes nothing.
-use mathlib.Core.Path.{ap, ◌∙◌}
+use mathlib.Core.Path.{◌≡◌, ap, ◌∙◌}
+use Prim.Native.Nat.{ℕ}
 use native.Mathlib.Omega.{arith}
+use lib.Bits.{bit_or}
 use Rattle.std.proofs.lemmas.Result.{err_from_is_err_and}
 use Rattle.address.specs.Answer.{said, answered}
+use Rattle.page_table_entry.specs.Built.{name_of}
 use Rattle.page_table_entry.proofs.Built.{eight, frame_refused, name_answered, entry, joined, is_written}
 use Rattle.page_table_entry.proofs.PageTableEntry.write_perm.Goals as goal
 
@@ -20,4 +23,5 @@ pub returns : goal.returns
 unfolding said
 returns c =
     let e = name_answered _ _ c.in_ok-e.ensures.whole in
-    is_written _ _ _ (ap answered (c.add_valid_bit.ensures.whole ∙ rw (e.0) (joined _ _ (omega arith))) ∙ entry _ _ (omega arith) e.1)
+    let same : (x : ℕ) → x ≡ name_of c.args.pa.0 → bit_or x c.args.perm ≡ bit_or (name_of c.args.pa.0) c.args.perm = λ x q. ap (λ (y : ℕ). bit_or y c.args.perm) q in
+    is_written _ _ _ (ap answered (omega (arith, same, joined c.args.pa.0 c.args.perm (omega arith))) ∙ entry _ _ (omega arith) e.1)
