@@ -12,9 +12,6 @@ use Rattle.walk.proofs.missing.blocks_missing.Goals as goal
 pub loop-block-init : goal.loop-block-init
 loop-block-init c = sym (part_none _ _)
 
-pub overflow_add-n : goal.overflow_add-n
-overflow_add-n c = let a = c.args in omega (arith, zeros_le (entry_under a.words.now a.top) (c.loop-block.block - a.first) a.first)
-
 pub loop-block-preserved : goal.loop-block-preserved
 loop-block-preserved c =
     let g = entry_under c.args.words.now c.args.top in
@@ -24,3 +21,6 @@ loop-block-preserved c =
       | then-entry-eq0 w ↦ w.n-is ∙ part_more g _ _ _ c.loop-block.auto.block i (sym read ∙ w.if-entry-eq0.true)
       | else-entry-eq0 w ↦ w.n-is ∙ part_pass g _ _ _ c.loop-block.auto.block i (λ z. w.if-entry-eq0.false (read ∙ z))
     ]
+
+pub overflow_add-n : goal.overflow_add-n
+overflow_add-n c = let a = c.args in omega (arith, zeros_le (entry_under a.words.now a.top) (c.loop-block.block - a.first) a.first)
