@@ -20,6 +20,11 @@ fn mixed(digest: u64, number: u64) -> u64 {
     ((digest % PRIME) * FACTOR + number % PRIME) % PRIME
 }
 
+// The same with a byte.
+fn with_byte(digest: u64, byte: &u8) -> u64 {
+    mixed(digest, u64::from(*byte))
+}
+
 impl Memory {
     pub fn new() -> Self {
         Memory {
@@ -48,10 +53,14 @@ impl Memory {
         }
     }
 
-    // From 1 on, each table word, frame byte and lent byte: the digest times FACTOR, and the number, modulo PRIME.
+    // From 1 on, each table word, frame byte and lent byte: the digest times FACTOR, and the number, modulo PRIME. One chain over all three
+    // would test for each number which part it is in.
     pub fn digest(&self) -> u64 {
-        let bytes = self.bytes.iter().chain(self.lent.iter());
-        let words = self.words.iter().copied();
-        words.chain(bytes.map(|byte| *byte as u64)).fold(1, mixed)
+        let words = self
+            .words
+            .iter()
+            .fold(1, |digest, word| mixed(digest, *word));
+        let bytes = self.bytes.iter().fold(words, with_byte);
+        self.lent.iter().fold(bytes, with_byte)
     }
 }
